@@ -1,0 +1,10 @@
+pub mod Names
+pub mod Forms
+pub mod Typing
+pub mod Sound
+pub mod Touch
+pub mod Store
+pub mod Declared
+pub mod Invariant
+pub mod Loads
+pub mod Demand

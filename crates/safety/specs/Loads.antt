@@ -1,0 +1,112 @@
+-- What a load leaves: one thread, the erased form of what was read, whole and fitting; and after the judged load, typed.
+use mathlib.Core.Path.{_≡_, refl, sym, ap, _∙_, subst}
+use mathlib.Core.List.{List, [], _∷_}
+use mathlib.Core.Bool.{Bool, true, false}
+use Prim.Native.Nat.{ℕ, _≤_}
+use native.Mathlib.Omega.{arith}
+use lib.ListN.{length}
+use lib.Dec.{leb}
+use borrow.Author.Tests.{leb-true}
+use Rattle.paper.specs.Base.{choose, Bytes}
+use Rattle.paper.specs.Sets.{empty}
+use Rattle.paper.specs.Types.{Ty}
+use Rattle.paper.specs.Expressions.{Exp}
+use Rattle.paper.specs.Reading.{Read, got, wrong, readImage}
+use Rattle.paper.specs.Rules.{Gives, Small}
+use Rattle.paper.specs.Verdict.{Out, ok, refused, verdict}
+use Rattle.paper.specs.Terms.{erase, termBytes}
+use Rattle.paper.specs.Evaluation.{sections}
+use Rattle.paper.specs.States.{Card, State, count}
+use Rattle.paper.specs.Loads.{raw, judged}
+use Rattle.laws.specs.Tests.{none-some}
+use Rattle.laws.specs.Lists.{all-nil, all-cons}
+use Rattle.laws.specs.Scope.{ExpIn, Bytewise}
+use Rattle.laws.specs.Images.{image-at}
+use Rattle.laws.specs.Verdicts.{accepted}
+use Rattle.laws.specs.Erasing.{erase-plain}
+use Rattle.safety.specs.Sound.{top}
+use Rattle.laws.specs.Placed.{plain-sections, plain-placed}
+use Rattle.laws.specs.Whole.{Whole}
+use Rattle.laws.specs.Good.{InRoom}
+use Rattle.safety.specs.Store.{TypedIn}
+use Rattle.safety.specs.Declared.{form, declared, cov-none}
+
+no-ok {ℓ} : {B : Type ℓ} {X : Type 0} {n p : ℕ} {x : X} → refused n p ≡ ok x → B
+no-ok e = absurd (let z : _≡_ {A = ℕ} 0 1 = cc in omega arith)
+
+abbrev pub first : Exp → State
+first e = record { marks = []; cells = []; threads = erase e ∷ [] }
+
+-- what was read, and that it fits
+pub record Loaded (card : Card) (s : List ℕ) (S : State) : Type 0 where
+  pub source : Exp
+  pub end : ℕ
+  pub was-read : readImage s ≡ got source end
+  pub is-first : first source ≡ S
+  pub small : length (termBytes (erase source)) ≤ card .threadBytes
+
+module _ (card : Card) (s : List ℕ) (S : State) where
+  pub raw-loaded : raw card s ≡ ok S → Loaded card s S
+  unfolding raw
+  raw-loaded = read (readImage s) refl
+    where
+      room : (e : Exp) (j : ℕ) → readImage s ≡ got e j → (b : Bool) → leb (length (termBytes (erase e))) (card .threadBytes) ≡ b
+          → choose b (λ _. ok (first e)) (λ _. refused 17 0) ≡ ok S → Loaded card s S
+      room e j q true r h = record { source = e; end = j; was-read = q; is-first = cc; small = leb-true (length (termBytes (erase e))) (card .threadBytes) r }
+      room e j q false r h = no-ok h
+
+      read : (r : Read Exp) → readImage s ≡ r
+          → elim r [ got e j ↦ choose (leb (length (termBytes (erase e))) (card .threadBytes)) (λ _. ok (first e)) (λ _. refused 17 0) | wrong n p ↦ refused n p ] ≡ ok S → Loaded card s S
+      read (got e j) q h = room e j q (leb (length (termBytes (erase e))) (card .threadBytes)) refl h
+      read (wrong n p) q h = no-ok h
+
+  -- the judged load makes the raw load, and the judge answered a type and a need
+  judged-ok : judged card s ≡ ok S → (t : Ty) × (verdict s ≡ ok t) × (raw card s ≡ ok S)
+  unfolding judged
+  judged-ok = go (verdict s) refl
+    where
+      go : (o : Out Ty) → verdict s ≡ o → elim o [ ok t ↦ raw card s | refused n p ↦ refused n p ] ≡ ok S
+          → (t : Ty) × (verdict s ≡ ok t) × (raw card s ≡ ok S)
+      go (ok t) q h = (t, q, h)
+      go (refused n p) q h = no-ok h
+
+-- ---- the first state
+
+first-whole : (e : Exp) → ExpIn 0 0 e → Bytewise e → Whole (first e)
+unfolding count
+first-whole e h b =
+    let p = erase-plain 0 0 0 0 e h b in
+    record {
+      threads = all-cons (plain-placed 0 0 (erase e) p) all-nil;
+      cells = all-nil;
+      sections = λ l. let z : count l (sections (erase e)) ≡ 0 = ap (count l) (plain-sections 0 0 0 (erase e) p) in omega arith;
+      bits = all-nil;
+    }
+
+first-fits : (card : Card) (e : Exp) → 1 ≤ card .threads → length (termBytes (erase e)) ≤ card .threadBytes → InRoom card (first e)
+first-fits card e h k = record { some-thread = omega arith; threads = h; cells = omega arith; locks = omega arith; thread-bytes = all-cons k all-nil; cell-bytes = all-nil }
+
+module _ (card : Card) (s : List ℕ) (S : State) (bytes : Bytes s) where
+  pub raw-whole : raw card s ≡ ok S → Whole S
+  raw-whole h = let l = raw-loaded card s S h in subst Whole (l .is-first) (first-whole (l .source) (image-at s (l .was-read) .body .scope) (image-at s (l .was-read) .body .numbers bytes))
+
+  pub raw-fits : 1 ≤ card .threads → raw card s ≡ ok S → InRoom card S
+  raw-fits k h = let l = raw-loaded card s S h in subst (InRoom card) (l .is-first) (first-fits card (l .source) k (l .small))
+
+first-typed : (e : Exp) {t : Ty} → ExpIn 0 0 e → Gives Small [] e t empty → TypedIn 0 [] (first e)
+first-typed e {t} h d = record {
+  store = record { marks-len = refl; cells-len = refl; cell = λ r c q. none-some q; guarded = λ r c q. none-some q };
+  threads = all-cons (form t, declared (top 0 []) 0 [] (omega arith) all-nil h d (cov-none [])) all-nil;
+}
+
+pub judged-typed : (card : Card) (s : List ℕ) (S : State) → judged card s ≡ ok S → TypedIn 0 [] S
+judged-typed card s S h =
+    let j = judged-ok card s S h in
+    let l = raw-loaded card s S (j .2) in
+    let a = accepted s (j .1) in
+    let q : got (a .source) (a .end) ≡ got (l .source) (l .end) = sym (a .was-read) ∙ l .was-read in
+    let e : a .source ≡ l .source = cc in
+    subst (TypedIn 0 []) (ap (λ x. first x) e ∙ l .is-first) (first-typed (a .source) (image-at s (a .was-read) .body .scope) (a .gives))
+
+pub judged-raw : (card : Card) (s : List ℕ) (S : State) → judged card s ≡ ok S → raw card s ≡ ok S
+judged-raw card s S h = judged-ok card s S h .2
