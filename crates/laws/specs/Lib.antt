@@ -30,3 +30,6 @@ pub mod SlotBytes
 pub mod StateBytes
 pub mod Cards
 pub mod CallLaws
+pub mod LoadLaws
+pub mod RunLaws
+pub mod CaseLaws

@@ -11,7 +11,7 @@ use Rattle.paper.specs.Base.{choose}
 use Rattle.paper.specs.Answers.{done, shortBuffer, notState}
 use Rattle.paper.specs.Types.{tyBytes, tySize}
 use Rattle.paper.specs.Verdict.{Out, ok, refused, verdict}
-use Rattle.paper.specs.States.{Card, total, plan}
+use Rattle.paper.specs.States.{State, Card, total, plan}
 use Rattle.paper.specs.StateOf.{stateOf}
 use Rattle.paper.specs.Steps.{Answer, Stepped, step}
 use Rattle.paper.specs.Loads.{raw, judged}
@@ -58,26 +58,29 @@ pub record JudgedCall : Type 0 where
   pub state : List ℕ
   pub work : List ℕ
 
+unfoldable pub afterJudged : Card → List ℕ → List ℕ → Out State → JudgedCall
+afterJudged card state work (ok S) = record { says = ok tt; state = laid (plan card S) state; work = zeroed work }
+afterJudged card state work (refused n p) = record { says = refused n p; state = state; work = zeroed work }
+
 unfoldable pub judgedCall : Card → List ℕ → List ℕ → List ℕ → JudgedCall
 judgedCall card image state work =
     choose (ltb (length state) (total card) || ltb (length work) workBytes)
-    (λ _. record { says = refused shortBuffer 0; state = state; work = work }) λ _.
-    elim (judged card image) [
-      | ok S ↦ record { says = ok tt; state = laid (plan card S) state; work = zeroed work }
-      | refused n p ↦ record { says = refused n p; state = state; work = zeroed work }
-    ]
+    (λ _. record { says = refused shortBuffer 0; state = state; work = work })
+    (λ _. afterJudged card state work (judged card image))
 
 pub record RawCall : Type 0 where
   pub says : Out (Unit {0})
   pub state : List ℕ
 
+unfoldable pub afterRaw : Card → List ℕ → Out State → RawCall
+afterRaw card state (ok S) = record { says = ok tt; state = laid (plan card S) state }
+afterRaw card state (refused n p) = record { says = refused n p; state = state }
+
 unfoldable pub rawCall : Card → List ℕ → List ℕ → RawCall
 rawCall card image state =
-    choose (ltb (length state) (total card)) (λ _. record { says = refused shortBuffer 0; state = state }) λ _.
-    elim (raw card image) [
-      | ok S ↦ record { says = ok tt; state = laid (plan card S) state }
-      | refused n p ↦ record { says = refused n p; state = state }
-    ]
+    choose (ltb (length state) (total card))
+    (λ _. record { says = refused shortBuffer 0; state = state })
+    (λ _. afterRaw card state (raw card image))
 
 -- ---- the step of thread i: "Otherwise the state is unchanged and the answer is 1 short buffer; 18 not a state; 19 .. The order is as
 -- listed"

@@ -2,17 +2,17 @@
 use mathlib.Core.Path.{_≡_, refl, sym}
 use mathlib.Core.Logic.{_≢_}
 use mathlib.Core.List.{List, [], _∷_, append-nil}
-use mathlib.Core.Bool.{true}
 use Prim.Native.Nat.{ℕ, zero, suc, _+_, _≤_, _<_}
 use native.Mathlib.Omega.{arith}
 use lib.ListN.{length, getD}
 use lib.Dec.{leb, ltb}
 use borrow.Author.Tests.{ltb-true, ltb-false}
-use Rattle.paper.specs.Terms.{Term, value, termBytes}
+use Rattle.paper.specs.Terms.{Term, termBytes}
 use Rattle.paper.specs.Evaluation.{sections}
 use Rattle.paper.specs.States.{Card, State, count}
 use Rattle.paper.specs.Steps.{Move, Answer, Stepped, outcome, step}
 use Rattle.laws.specs.Lists.{all-get}
+use Rattle.safety.specs.Statement.{Allowed, made, no-thread, finished, waits, full, long}
 use Rattle.safety.specs.Forms.{Form}
 use Rattle.laws.specs.Values.{value-is}
 use Rattle.safety.specs.Typing.{Slot}
@@ -20,15 +20,6 @@ use Rattle.safety.specs.Sound.{Safe, safe-goes, safe-done, safe-waits, s
 use Rattle.safety.specs.Store.{TypedIn, Later, typed-after}
 use Rattle.laws.specs.Whole.{Whole, total, bit-at}
 use Rattle.laws.specs.Keeping.{Is, is, of, either, here-at}
-
--- "it is finished, can step, waits for a held lock, or meets a stated limit": what a call for thread i may answer
-pub data Allowed (S : State) (i : ℕ) : Answer → Type 0 where
-  made : {k n : ℕ} → Allowed S i (record { answer = 0; kind = k; number = n })
-  no-thread : length (S .threads) ≤ i → Allowed S i (record { answer = 19; kind = 0; number = 0 })
-  finished : value (getD (S .threads) i Term.unit) ≡ true → Allowed S i (record { answer = 20; kind = 0; number = 0 })
-  waits : {l : ℕ} → getD (S .marks) l 0 ≡ 1 → Allowed S i (record { answer = 21; kind = 0; number = l })
-  full : Allowed S i (record { answer = 23; kind = 0; number = 0 })
-  long : Allowed S i (record { answer = 24; kind = 0; number = 0 })
 
 pub never-stuck : {S : State} {i : ℕ} {a : Answer} → Allowed S i a → a .answer ≢ 22
 never-stuck made e = omega arith

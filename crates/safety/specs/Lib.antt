@@ -1,3 +1,4 @@
+pub mod Statement
 pub mod Names
 pub mod Forms
 pub mod Typing
@@ -6,5 +7,6 @@ pub mod Touch
 pub mod Store
 pub mod Declared
 pub mod Invariant
+pub mod Moment
 pub mod Loads
 pub mod Demand

@@ -1,4 +1,4 @@
--- What a load leaves: one thread, the erased form of what was read, whole and fitting; and after the judged load, typed.
+-- What a load leaves: one thread, the erased form of what was read, whole and fitting; and typed, where the rules gave it a type.
 use mathlib.Core.Path.{_≡_, refl, sym, ap, _∙_, subst}
 use mathlib.Core.List.{List, [], _∷_}
 use mathlib.Core.Bool.{Bool, true, false}
@@ -17,12 +17,13 @@ use Rattle.paper.specs.Verdict.{Out, ok, refused, verdict}
 use Rattle.paper.specs.Terms.{erase, termBytes}
 use Rattle.paper.specs.Evaluation.{sections}
 use Rattle.paper.specs.States.{Card, State, count}
-use Rattle.paper.specs.Loads.{raw, judged}
+use Rattle.paper.specs.Loads.{start, raw, judged}
 use Rattle.laws.specs.Tests.{none-some}
 use Rattle.laws.specs.Lists.{all-nil, all-cons}
 use Rattle.laws.specs.Scope.{ExpIn, Bytewise}
 use Rattle.laws.specs.Images.{image-at}
-use Rattle.laws.specs.Verdicts.{accepted}
+use Rattle.laws.specs.LoadLaws.{raw-loaded, judged-ok}
+use Rattle.laws.specs.Verdicts.{Accepted, accepted}
 use Rattle.laws.specs.Erasing.{erase-plain}
 use Rattle.safety.specs.Sound.{top}
 use Rattle.laws.specs.Placed.{plain-sections, plain-placed}
@@ -31,44 +32,8 @@ use Rattle.laws.specs.Good.{InRoom}
 use Rattle.safety.specs.Store.{TypedIn}
 use Rattle.safety.specs.Declared.{form, declared, cov-none}
 
-no-ok {ℓ} : {B : Type ℓ} {X : Type 0} {n p : ℕ} {x : X} → refused n p ≡ ok x → B
-no-ok e = absurd (let z : _≡_ {A = ℕ} 0 1 = cc in omega arith)
-
 abbrev pub first : Exp → State
-first e = record { marks = []; cells = []; threads = erase e ∷ [] }
-
--- what was read, and that it fits
-pub record Loaded (card : Card) (s : List ℕ) (S : State) : Type 0 where
-  pub source : Exp
-  pub end : ℕ
-  pub was-read : readImage s ≡ got source end
-  pub is-first : first source ≡ S
-  pub small : length (termBytes (erase source)) ≤ card .threadBytes
-
-module _ (card : Card) (s : List ℕ) (S : State) where
-  pub raw-loaded : raw card s ≡ ok S → Loaded card s S
-  unfolding raw
-  raw-loaded = read (readImage s) refl
-    where
-      room : (e : Exp) (j : ℕ) → readImage s ≡ got e j → (b : Bool) → leb (length (termBytes (erase e))) (card .threadBytes) ≡ b
-          → choose b (λ _. ok (first e)) (λ _. refused 17 0) ≡ ok S → Loaded card s S
-      room e j q true r h = record { source = e; end = j; was-read = q; is-first = cc; small = leb-true (length (termBytes (erase e))) (card .threadBytes) r }
-      room e j q false r h = no-ok h
-
-      read : (r : Read Exp) → readImage s ≡ r
-          → elim r [ got e j ↦ choose (leb (length (termBytes (erase e))) (card .threadBytes)) (λ _. ok (first e)) (λ _. refused 17 0) | wrong n p ↦ refused n p ] ≡ ok S → Loaded card s S
-      read (got e j) q h = room e j q (leb (length (termBytes (erase e))) (card .threadBytes)) refl h
-      read (wrong n p) q h = no-ok h
-
-  -- the judged load makes the raw load, and the judge answered a type and a need
-  judged-ok : judged card s ≡ ok S → (t : Ty) × (verdict s ≡ ok t) × (raw card s ≡ ok S)
-  unfolding judged
-  judged-ok = go (verdict s) refl
-    where
-      go : (o : Out Ty) → verdict s ≡ o → elim o [ ok t ↦ raw card s | refused n p ↦ refused n p ] ≡ ok S
-          → (t : Ty) × (verdict s ≡ ok t) × (raw card s ≡ ok S)
-      go (ok t) q h = (t, q, h)
-      go (refused n p) q h = no-ok h
+first e = start (erase e)
 
 -- ---- the first state
 
@@ -99,14 +64,17 @@ first-typed e {t} h d = record {
   threads = all-cons (form t, declared (top 0 []) 0 [] (omega arith) all-nil h d (cov-none [])) all-nil;
 }
 
-pub judged-typed : (card : Card) (s : List ℕ) (S : State) → judged card s ≡ ok S → TypedIn 0 [] S
-judged-typed card s S h =
-    let j = judged-ok card s S h in
-    let l = raw-loaded card s S (j .2) in
-    let a = accepted s (j .1) in
+-- what the rules type, loaded raw, is typed
+pub raw-typed : (card : Card) (s : List ℕ) (S : State) {t : Ty} → Accepted s t → raw card s ≡ ok S → TypedIn 0 [] S
+raw-typed card s S a h =
+    let l = raw-loaded card s S h in
     let q : got (a .source) (a .end) ≡ got (l .source) (l .end) = sym (a .was-read) ∙ l .was-read in
     let e : a .source ≡ l .source = cc in
     subst (TypedIn 0 []) (ap (λ x. first x) e ∙ l .is-first) (first-typed (a .source) (image-at s (a .was-read) .body .scope) (a .gives))
+
+-- the judged load loads what the rules type, and loads it raw
+pub judged-accepted : (card : Card) (s : List ℕ) (S : State) → judged card s ≡ ok S → (t : Ty) × Accepted s t
+judged-accepted card s S h = let j = judged-ok card s S h in (j .0, accepted s (j .1))
 
 pub judged-raw : (card : Card) (s : List ℕ) (S : State) → judged card s ≡ ok S → raw card s ≡ ok S
 judged-raw card s S h = judged-ok card s S h .2

@@ -11,14 +11,11 @@ use Rattle.paper.specs.States.{State}
 use Rattle.paper.specs.Steps.{Change, changed}
 use Rattle.laws.specs.Seats.{all-seat}
 use Rattle.laws.specs.Lists.{All, all-nil, all-cons, all-set, all-append, all-map, get-end, get-append, get-snoc, get-set}
+use Rattle.safety.specs.Statement.{Grown}
 use Rattle.safety.specs.Forms.{Form}
 use Rattle.laws.specs.Values.{Value}
 use Rattle.safety.specs.Typing.{Slot, Mor, weaken, same}
 use Rattle.safety.specs.Sound.{top, Closed, Grow, g-none, g-cell, g-write, g-fork, g-lock, g-taken, g-released, grow-mor, Good, StoreOk}
-
--- What was made keeps its place.
-abbrev pub Grown : {A : Type 0} → List A → List A → Type 0
-Grown {A} l l′ = (m : List A) × (l′ ≡ l ++ m)
 
 pub grow-more : {n n′ : ℕ} {Σ Σ′ : List Slot} {c : Change} → Grow n Σ c n′ Σ′ → Grown Σ Σ′
 grow-more {Σ = Σ} g-none = ([], sym (append-nil Σ))

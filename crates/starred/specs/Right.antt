@@ -16,7 +16,7 @@ use Rattle.paper.specs.States.{sixteen, total, pad, join, lengths, slots, plan,
 use Rattle.paper.specs.StateOf.{readTerm, slotsFrom, stateFrom, sameBytes, stateIn, stateOf}
 use Rattle.paper.specs.Steps.{inPlace, newPlace, move, seat, changed, outcome, step}
 use Rattle.paper.specs.Loads.{raw, judged}
-use Rattle.paper.specs.Calls.{laid, typeBytes, workBytes, zeroed, judgeCall, judgedCall, afterStep, stepCall}
+use Rattle.paper.specs.Calls.{laid, typeBytes, workBytes, zeroed, judgeCall, judgedCall, afterJudged, afterStep, stepCall}
 use Rattle.starred.specs.Table.{Stepping, Expected, Row, table}
 
 -- the answers of the threads called, in turn, and the state after them
@@ -63,5 +63,5 @@ Every P [] = Unit {0}
 Every P (x ∷ xs) = P x × Every P xs
 
 pub right : unfold table in Every (λ r. (outcomeOf r ≡ r .expected) × (typesAfter r ≡ laid (r .expected .type) (replicate 256 0))) table
-unfolding outcomeOf table tell ending judgeCall judgedCall stepCall afterStep laid zeroed workBytes typeBytes stateOf stateIn stateFrom slotsFrom sameBytes readTerm verdict judge test theFunction theRef theLock theInt ifSubtype ifRoom readImage readExp readStated readType field byte word codeDue lockName lockSet index raw judged erase termBytes value put step outcome changed seat move newPlace inPlace plan good all count opened marked sections plain placed total pad join lengths slots sixteen tyBytes tySize raise lower mentions related setsRelated subtype expSize single has bits union less within raised lowered bytes2 bytes4
+unfolding outcomeOf table tell ending judgeCall judgedCall afterJudged stepCall afterStep laid zeroed workBytes typeBytes stateOf stateIn stateFrom slotsFrom sameBytes readTerm verdict judge test theFunction theRef theLock theInt ifSubtype ifRoom readImage readExp readStated readType field byte word codeDue lockName lockSet index raw judged erase termBytes value put step outcome changed seat move newPlace inPlace plan good all count opened marked sections plain placed total pad join lengths slots sixteen tyBytes tySize raise lower mentions related setsRelated subtype expSize single has bits union less within raised lowered bytes2 bytes4
 right = ((refl, refl), ((refl, refl), ((refl, refl), ((refl, refl), ((refl, refl), ((refl, refl), ((refl, refl), ((refl, refl), ((refl, refl), ((refl, refl), ((refl, refl), tt)))))))))))
