@@ -19,5 +19,5 @@ sixteen-fits = record {
   locks = omega arith;
   threadBytes = omega arith;
   cellBytes = omega arith;
-  whole = omega arith;
+  size = omega arith;
 }

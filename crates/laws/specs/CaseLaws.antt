@@ -1,11 +1,9 @@
 -- Each case of an answer is told by its own number and values: a contract that fixes what is told fixes the case.
 use mathlib.Core.Path.{_≡_, refl, sym, _∙_, ap}
-use mathlib.Core.Option.{Option, none, some}
-use Prim.Native.Nat.{ℕ}
+use mathlib.Core.Option.{none, some}
 use lib.Dec.{eqb}
 use Rattle.paper.specs.Base.{choose}
 use Rattle.paper.specs.Steps.{Answer}
-use Rattle.paper.specs.Runs.{Race}
 use Rattle.paper.specs.Calls.{RaceCall}
 use Rattle.paper.specs.Cases.{StepCase, told, RaceCase, toldRace, DefaultCase, DefaultTold, toldDefault}
 

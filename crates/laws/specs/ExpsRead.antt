@@ -8,14 +8,13 @@ use lib.Dec.{leb, ltb}
 use lib.ListN.{length, drop}
 use borrow.Author.Tests.{leb-true, ltb-true}
 use Rattle.paper.specs.Base.{bytes4, Bytes}
-use Rattle.paper.specs.Sets.{Set}
-use Rattle.paper.specs.Types.{Ty, tyBytes, tySize}
+use Rattle.paper.specs.Types.{tyBytes}
 use Rattle.paper.specs.Expressions.{Exp, expBytes, expSize, expDepth}
 use Rattle.paper.specs.Reading.{readExp, expCode}
 use Rattle.laws.specs.Tests.{split}
 use Rattle.laws.specs.Scope.{ExpIn, Bytewise}
 use Rattle.laws.specs.Shown.{Shows, shown, denied, after, either, pick, joined, ByteAt, code-shows, name-shows, set-shows, word-shows, index-shows}
-use Rattle.laws.specs.TypesRead.{Stated, Fault, fault, cut, TypeAt, stated-shows}
+use Rattle.laws.specs.TypesRead.{Stated, Fault, fault, cut, stated-shows}
 
 -- every stated type is within its limits
 abbrev pub StatedIn : Exp → Type 0

@@ -2,7 +2,7 @@
 -- of an expression within the limits reads as that expression.
 use mathlib.Core.Path.{_≡_, refl, sym, _∙_, subst, ap}
 use mathlib.Core.Logic.{_↔_}
-use mathlib.Core.Bool.{Bool, true, false, _||_, not}
+use mathlib.Core.Bool.{true, false, _||_, not}
 use mathlib.Core.List.{List, [], _∷_, _++_, append-nil}
 use Prim.Native.Nat.{ℕ, suc, _+_, _/_, _%_, _<_, _≤_}
 use native.Mathlib.Omega.{arith}
@@ -10,7 +10,7 @@ use lib.Dec.{ltb, eqb}
 use lib.ListN.{length, drop, length-append}
 use lib.Seq.{drop-length}
 use borrow.Author.Tests.{eqb-true, eq-eqb, ltb-false, le-ltb, not-false}
-use Rattle.paper.specs.Base.{choose, at, word16, bytes2, bytes4, Bytes}
+use Rattle.paper.specs.Base.{at, word16, bytes2, bytes4, Bytes}
 use Rattle.paper.specs.Types.{tyBytes}
 use Rattle.paper.specs.Expressions.{Exp, expBytes, expSize, expDepth, imageOf}
 use Rattle.paper.specs.Reading.{Read, got, wrong, known, untrue, whole, readExp, readImage}
@@ -18,7 +18,6 @@ use Rattle.laws.specs.Tests.{or-false}
 use Rattle.laws.specs.Lists.{all-getD}
 use Rattle.laws.specs.Scope.{ExpIn, Bytewise}
 use Rattle.laws.specs.Shown.{Shows, shown, denied, was-shown, was-denied, either₀, cons-at}
-use Rattle.laws.specs.ReadBack.{Reads, reads}
 use Rattle.laws.specs.TypesRead.{Fault, fault, bytes-length}
 use Rattle.laws.specs.ExpsRead.{StatedIn, ExpAt, exp-shows}
 use Rattle.laws.specs.ExpsBack.{bytes-exp}

@@ -1,6 +1,6 @@
 -- The judge and the rules. One walk through `judge`: what it answers of an expression in scope, the rules give, and what it refuses has a
 -- number from 10 to 16 and a place inside the expression (`judge-says`). What the rules give, it answers (`complete`).
-use mathlib.Core.Path.{_≡_, refl, sym, ap, _∙_, subst}
+use mathlib.Core.Path.{_≡_, refl, sym, ap, _∙_}
 use mathlib.Core.Bool.{Bool, true, false, _&&_, not}
 use mathlib.Core.List.{List, _∷_, map}
 use Prim.Native.Nat.{ℕ, suc, _+_, _<_, _≤_}

@@ -12,7 +12,7 @@ use Rattle.paper.specs.Base.{choose}
 use Rattle.paper.specs.Terms.{Term, put, value, termBytes}
 use Rattle.paper.specs.Evaluation.{sections, plain, placed}
 use Rattle.paper.specs.States.{Card, State, count}
-use Rattle.paper.specs.Steps.{Change, nothing, setCell, newLock, newThread, Move, finished, waits, stuck, full, long, goes, newPlace, inPlace, eval, applies, reads, writes, forks, takes, adds, branches, move}
+use Rattle.paper.specs.Steps.{Change, nothing, newLock, newThread, Move, finished, waits, stuck, full, long, goes, newPlace, inPlace, eval, applies, reads, writes, forks, takes, adds, branches, move}
 use Rattle.laws.specs.Tests.{split, split₃}
 use Rattle.laws.specs.Lists.{All, all-getD}
 use Rattle.laws.specs.Values.{Value, v-unit, v-num, v-fun, v-lock, v-cell, value-is, is-value}

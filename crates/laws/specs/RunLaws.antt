@@ -1,20 +1,19 @@
 -- Calls one after another on a buffer that holds a state: each leaves a buffer that holds the state after it, so a run may test its bytes
 -- once. A run of a schedule is the run of the state, and a default run leaves what the steps of the state leave.
 use mathlib.Core.Path.{_≡_, refl, sym, _∙_, ap}
-use mathlib.Core.Logic.{_≢_}
 use mathlib.Core.Bool.{Bool, true, false}
 use mathlib.Core.List.{List, [], _∷_, _++_}
 use mathlib.Core.Option.{Option, none, some}
 use Prim.Native.Nat.{ℕ, zero, suc, _≤_}
 use native.Mathlib.Omega.{arith}
 use lib.Dec.{eqb, leb, ltb}
-use lib.ListN.{length, drop, take, take-append-drop}
+use lib.ListN.{length, drop, take-append-drop}
 use lib.Seq.{drop-at}
 use borrow.Author.Tests.{eq-eqb}
 use Rattle.paper.specs.Base.{choose}
-use Rattle.paper.specs.Terms.{Term, termBytes}
+use Rattle.paper.specs.Terms.{termBytes}
 use Rattle.paper.specs.States.{Card, State, total, plan, good, Holds, Fits}
-use Rattle.paper.specs.Steps.{Move, finished, waits, stuck, full, long, goes, Answer, Stepped, move, outcome, step}
+use Rattle.paper.specs.Steps.{Move, finished, waits, stuck, full, long, goes, Answer, Stepped, outcome, step}
 use Rattle.paper.specs.Runs.{Ran, run, counted, Made, tried, firstOf, lowest, Finished, default}
 use Rattle.paper.specs.Calls.{laid, StepCall, stepCall, afterStep, RunCall, callAll, runCall}
 use Rattle.laws.specs.Tests.{none-some}

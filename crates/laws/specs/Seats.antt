@@ -1,5 +1,5 @@
 -- Where a new thread goes: `newPlace` gives the next number where there is room, and `seat` puts a thread there, behind the last.
-use mathlib.Core.Path.{_≡_, refl, ap}
+use mathlib.Core.Path.{_≡_, refl}
 use mathlib.Core.List.{List, [], _∷_, _++_}
 use mathlib.Core.Option.{none, some}
 use mathlib.Core.Bool.{Bool, true, false}

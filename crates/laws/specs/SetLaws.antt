@@ -4,12 +4,11 @@ use mathlib.Core.Path.{_≡_, refl, sym, ap, _∙_}
 use mathlib.Core.Logic.{_⊎_, inl, inr}
 use mathlib.Core.Bool.{Bool, true, false}
 use Prim.Native.Nat.{ℕ, zero, suc, _+_, _*_, _/_, _%_, _^_, _-_, _≤_, _<_, max}
-use native.Mathlib.Nat.{pow-suc, div-div-eq-div-mul, mul-comm}
 use native.Mathlib.Omega.{arith}
 use lib.Dec.{eqb}
 use borrow.Author.Tests.{eqb-true, eqb-false, eq-eqb}
 pub use Rattle.paper.specs.Known.{bit, bit-is, union-left, raised-zero}
-use Rattle.paper.specs.Sets.{Set, names, empty, single, has, bits, union, less, within, raised, lowered}
+use Rattle.paper.specs.Sets.{Set, empty, single, has, bits, union, less, within, raised, lowered}
 
 pub bit-le : (w : Set) (k : ℕ) → bit w k ≤ 1
 bit-le w zero = omega arith

@@ -1,6 +1,6 @@
 -- The test `subtype` is the relation of document 01's sentence (`subtype-iff`), and that is an order: reflexive, transitive, and, between
 -- types of 32 names, antisymmetric.
-use mathlib.Core.Path.{_≡_, refl, sym, ap, _∙_, subst}
+use mathlib.Core.Path.{_≡_, refl, ap, subst}
 use mathlib.Core.Logic.{_↔_}
 use mathlib.Core.Bool.{Bool, true, false, _&&_}
 use Prim.Native.Nat.{ℕ, _^_, _<_}

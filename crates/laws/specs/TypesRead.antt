@@ -1,7 +1,7 @@
 -- The reading of types: what was read stands there, in scope and within the limits, or the refusal is one of the list; and what stands
 -- there within the limits is read.
 use mathlib.Core.Path.{_≡_, refl, _∙_, subst, ap}
-use mathlib.Core.Bool.{Bool, true, false, _&&_}
+use mathlib.Core.Bool.{true, _&&_}
 use mathlib.Core.List.{List, _∷_, _++_, append-assoc}
 use Prim.Native.Nat.{ℕ, zero, suc, _+_, _-_, _≤_}
 use native.Mathlib.Omega.{arith}

@@ -9,7 +9,7 @@ use Rattle.paper.specs.Answers.{done}
 use Rattle.paper.specs.Terms.{Term}
 use Rattle.paper.specs.Evaluation.{touches}
 use Rattle.paper.specs.States.{State, Card}
-use Rattle.paper.specs.Steps.{Answer, Stepped, step}
+use Rattle.paper.specs.Steps.{step}
 
 -- ---- "The race finder .. gives the first pair i < j, by i and then j, both about to read or write one cell, and that cell; or none."
 

@@ -41,7 +41,7 @@ pub record Fits (card : Card) : Type 0 where
   pub locks : card .locks ≤ 32
   pub threadBytes : card .threadBytes < 65536
   pub cellBytes : card .cellBytes < 65536
-  pub whole : total card - 2 < 65536
+  pub size : total card - 2 < 65536
 
 -- ---- the plan
 

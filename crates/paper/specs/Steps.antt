@@ -8,7 +8,7 @@ use lib.ListN.{length, getD, set, take, drop}
 use Rattle.paper.specs.Base.{choose}
 use Rattle.paper.specs.Answers.{done, noThread, threadFinished, threadWaits, threadStuck, oneTooMany, slotTooShort}
 use Rattle.paper.specs.Answers.{applied, cellMade, cellRead, cellWritten, forked, lockMade, lockTaken, lockReleased, letBound, wentOn, added, branched}
-use Rattle.paper.specs.Terms.{Term, termBytes, value, put, asFunction, asNumber, asLock, asCell}
+use Rattle.paper.specs.Terms.{Term, termBytes, put, asFunction, asNumber, asLock, asCell}
 use Rattle.paper.specs.Evaluation.{inTurn}
 use Rattle.paper.specs.States.{State, Card}
 

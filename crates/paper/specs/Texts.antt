@@ -1,7 +1,7 @@
 -- What the judge and the trial program print (document 01, "Bench examples"), as bytes. Each line is ended by one newline.
 use mathlib.Core.Bool.{_&&_}
 use mathlib.Core.List.{List, [], _∷_, _++_}
-use mathlib.Core.Option.{Option, none, some}
+use mathlib.Core.Option.{none, some}
 use Prim.Native.Nat.{ℕ, zero, suc, _+_, _/_, _%_}
 use lib.Dec.{leb, ltb}
 use lib.ListN.{length, take, drop}
@@ -11,7 +11,7 @@ use Rattle.paper.specs.Types.{Ty, tyBytes}
 use Rattle.paper.specs.Verdict.{Out, ok, refused, numberOf, verdict}
 use Rattle.paper.specs.States.{State, Card, sixteen}
 use Rattle.paper.specs.Loads.{raw}
-use Rattle.paper.specs.Runs.{Race, race, Made, tried, lowest}
+use Rattle.paper.specs.Runs.{race, Made, tried, lowest}
 
 -- ---- numbers and bytes as text
 

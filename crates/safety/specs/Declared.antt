@@ -2,7 +2,7 @@
 -- locks held is met.
 use mathlib.Core.Path.{_≡_, refl, sym, ap, ap₂, _∙_, subst₂}
 use mathlib.Core.List.{List, [], _∷_, map}
-use mathlib.Core.Option.{none, some}
+use mathlib.Core.Option.{some}
 use mathlib.Core.Bool.{Bool, true, false}
 use Prim.Native.Nat.{ℕ, zero, suc, _^_, _≤_, _<_}
 use native.Mathlib.Omega.{arith}
@@ -19,7 +19,7 @@ use Rattle.laws.specs.Subtypes.{is-subtype}
 use Rattle.laws.specs.Raising.{raise-lower}
 use Rattle.laws.specs.Scope.{TyIn, ExpIn, gives-in, raises-in}
 use Rattle.safety.specs.Names.{In, here, there, Subset, in-map, members, members-raised, has-in, in-has}
-use Rattle.safety.specs.Forms.{Form, ren, Sub, s-unit, s-int, s-lock, s-ref, s-fun, sub-refl}
+use Rattle.safety.specs.Forms.{Form, ren, Sub, s-unit, s-int, s-fun, sub-refl}
 use Rattle.safety.specs.Typing.{Ctx, under, subsume}
 use Rattle.safety.specs.Typing.{HasTy, t-unit, t-num, t-var, t-fun, t-app, t-cell, t-read, t-write, t-fork, t-newlock, t-sync, t-bind, t-seq, t-add, t-cond}
 

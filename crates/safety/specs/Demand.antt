@@ -1,7 +1,7 @@
 -- Demand 3: a program that the rules accept never races, whatever the schedule. The premise is the rules and not the judge's answer
 -- (`Accepted s t`: the reading gives an expression, and the rules give it the type t with an empty need within the limits), so the
 -- theorem can't hold by refusing. It is stated of states (`safe`) and of buffers (`safe-at`); with the judged load as corollaries.
-use mathlib.Core.Path.{_≡_, refl, sym, ap, _∙_}
+use mathlib.Core.Path.{_≡_, refl, ap, _∙_}
 use mathlib.Core.List.{List, [], _∷_, _++_}
 use mathlib.Core.Bool.{true}
 use Prim.Native.Nat.{ℕ, _≤_}

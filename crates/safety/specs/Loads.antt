@@ -1,19 +1,16 @@
 -- What a load leaves: one thread, the erased form of what was read, whole and fitting; and typed, where the rules gave it a type.
 use mathlib.Core.Path.{_≡_, refl, sym, ap, _∙_, subst}
-use mathlib.Core.List.{List, [], _∷_}
-use mathlib.Core.Bool.{Bool, true, false}
+use mathlib.Core.List.{List, []}
 use Prim.Native.Nat.{ℕ, _≤_}
 use native.Mathlib.Omega.{arith}
 use lib.ListN.{length}
-use lib.Dec.{leb}
-use borrow.Author.Tests.{leb-true}
-use Rattle.paper.specs.Base.{choose, Bytes}
+use Rattle.paper.specs.Base.{Bytes}
 use Rattle.paper.specs.Sets.{empty}
 use Rattle.paper.specs.Types.{Ty}
 use Rattle.paper.specs.Expressions.{Exp}
-use Rattle.paper.specs.Reading.{Read, got, wrong, readImage}
+use Rattle.paper.specs.Reading.{got}
 use Rattle.paper.specs.Rules.{Gives, Small}
-use Rattle.paper.specs.Verdict.{Out, ok, refused, verdict}
+use Rattle.paper.specs.Verdict.{ok}
 use Rattle.paper.specs.Terms.{erase, termBytes}
 use Rattle.paper.specs.Evaluation.{sections}
 use Rattle.paper.specs.States.{Card, State, count}

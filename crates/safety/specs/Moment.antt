@@ -11,7 +11,7 @@ use lib.Dec.{ltb}
 use borrow.Author.Tests.{ltb-true, ltb-false}
 use Rattle.paper.specs.Terms.{Term}
 use Rattle.paper.specs.Evaluation.{touches, sections}
-use Rattle.paper.specs.States.{Card, State, Fits, good, count}
+use Rattle.paper.specs.States.{Card, State, Fits, count}
 use Rattle.laws.specs.Tests.{none-some}
 use Rattle.laws.specs.Lists.{all-get, get-lt, get-below}
 use Rattle.laws.specs.StateBytes.{plan-state}

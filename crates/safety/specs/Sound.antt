@@ -5,7 +5,7 @@ use mathlib.Core.Logic.{_≢_}
 use mathlib.Core.List.{List, [], _∷_, _++_, map}
 use mathlib.Core.Option.{Option, none, some}
 use mathlib.Core.Bool.{Bool, true, false}
-use Prim.Native.Nat.{ℕ, zero, suc, _+_, _≤_, _<_, _%_, _^_}
+use Prim.Native.Nat.{ℕ, zero, suc, _≤_, _<_}
 use native.Mathlib.Omega.{arith}
 use lib.ListN.{length, getElem? as get, getD}
 use lib.Dec.{eqb, leb, ltb}
@@ -13,7 +13,7 @@ use borrow.Author.Tests.{eqb-false}
 use Rattle.paper.specs.Base.{choose}
 use Rattle.paper.specs.Terms.{Term, put, value, termBytes}
 use Rattle.paper.specs.States.{Card, State}
-use Rattle.paper.specs.Steps.{Change, nothing, newCell, setCell, newLock, taken, released, newThread, Move, finished, waits, stuck, full, long, goes}
+use Rattle.paper.specs.Steps.{Change, nothing, newCell, setCell, newLock, taken, released, newThread, Move, finished, waits, full, long, goes}
 use Rattle.paper.specs.Steps.{newPlace, inPlace, eval, applies, reads, writes, forks, takes, adds, branches, move}
 use Rattle.laws.specs.Tests.{none-some, not-both}
 use Rattle.laws.specs.Lists.{get-end, getD-get}

@@ -10,7 +10,7 @@ use Rattle.paper.specs.Terms.{Term}
 use Rattle.paper.specs.States.{State}
 use Rattle.paper.specs.Steps.{Change, changed}
 use Rattle.laws.specs.Seats.{all-seat}
-use Rattle.laws.specs.Lists.{All, all-nil, all-cons, all-set, all-append, all-map, get-end, get-append, get-snoc, get-set}
+use Rattle.laws.specs.Lists.{All, all-set, all-map, get-end, get-append, get-snoc, get-set}
 use Rattle.safety.specs.Statement.{Grown}
 use Rattle.safety.specs.Forms.{Form}
 use Rattle.laws.specs.Values.{Value}
