@@ -1,5 +1,4 @@
--- `good` taken apart: a state is good exactly where it is whole and fits the card. A step from a good state gives a good state,
--- typed or not.
+-- `good` taken apart: a state is good exactly where it is whole and fits the card.
 use mathlib.Core.Path.{_≡_, refl, sym, ap, _∙_}
 use mathlib.Core.List.{List, [], _∷_, _++_}
 use mathlib.Core.Bool.{Bool, true, false, _&&_}

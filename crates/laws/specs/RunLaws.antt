@@ -1,5 +1,5 @@
 -- Calls one after another on a buffer that holds a state: each leaves a buffer that holds the state after it, so a run may test its bytes
--- once. A run of a schedule is the run of the state, and a default run leaves what the steps of the state leave.
+-- once. A run of a schedule is the run of the state, and a default run leaves a good state.
 use mathlib.Core.Path.{_≡_, refl, sym, _∙_, ap}
 use mathlib.Core.Bool.{Bool, true, false}
 use mathlib.Core.List.{List, [], _∷_, _++_}

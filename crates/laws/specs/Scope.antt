@@ -1,5 +1,5 @@
 -- What is in scope: a type mentions only lock names below n, and an expression only those and variables below v, with numbers of
--- four bytes. `image` reads only such (Reading), and the rules give such types and needs to such expressions.
+-- four bytes. `readImage` reads only such (`Images`), and the rules give such types and needs to such expressions.
 use mathlib.Core.Path.{_≡_}
 use mathlib.Core.Bool.{false}
 use mathlib.Core.List.{List, map}
