@@ -1,6 +1,7 @@
 /*
  * The proved judge beside the plain one, on the same images, in one process: nanoseconds per image byte, and how they compare.
- * Argument: a file with lines `J image ..`, the image in hex. Every image is judged by both first, and they must agree.
+ * Argument: a file with lines `J image ..`, the image in hex. Every image is judged by both first, and they must agree. With a second
+ * argument, `plain`, `proved` or `none`, that judge alone goes once through the images, for a count of its instructions.
  */
 #define _POSIX_C_SOURCE 199309L
 #include <stdio.h>
@@ -70,14 +71,31 @@ static double nanoseconds(uint64_t (*judge)(const struct image *), const struct 
     return best;
 }
 
-int main(int argc, char **argv)
+static int read_images(const char *name)
 {
     static char line[LINE_BYTES];
-    FILE *f = argc == 2 ? fopen(argv[1], "r") : NULL;
-    double a = 0, b = 0, bytes = 0, worst = 0;
-    if (!f) return fprintf(stderr, "judge: a file of vectors\n"), 2;
+    FILE *f = fopen(name, "r");
+    if (!f) return 0;
     while (fgets(line, sizeof line, f) && count < IMAGES_MOST)
         if (line[0] == 'J' && line[2] != '-') take(line + 2);
+    fclose(f);
+    return 1;
+}
+
+/* One judge alone, once through the images. */
+static int once(uint64_t (*judge)(const struct image *))
+{
+    volatile uint64_t sink = 0;
+    for (size_t i = 0; i < count; i++) sink += judge(&images[i]);
+    return 0;
+}
+
+int main(int argc, char **argv)
+{
+    double a = 0, b = 0, bytes = 0, worst = 0;
+    if (argc < 2 || !read_images(argv[1])) return fprintf(stderr, "judge: a file of vectors\n"), 2;
+    if (argc == 3 && strcmp(argv[2], "none") == 0) return 0;
+    if (argc == 3) return once(strcmp(argv[2], "plain") == 0 ? plain : proved);
     for (size_t i = 0; i < count; i++) {
         if (plain(&images[i]) != proved(&images[i])) return printf("image %zu: they differ\n", i), 1;
         double p = nanoseconds(plain, &images[i]), q = nanoseconds(proved, &images[i]);

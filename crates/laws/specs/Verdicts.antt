@@ -3,10 +3,14 @@
 -- and then that type is the answer (`accepted-iff`). A whole program never needs a lock, since none is in scope outside it.
 use mathlib.Core.Path.{_≡_, refl, subst}
 use mathlib.Core.Logic.{_↔_}
+use mathlib.Core.Bool.{Bool, true, false, _||_, not}
 use mathlib.Core.List.{List, []}
-use Prim.Native.Nat.{ℕ, _+_, _≤_}
+use Prim.Native.Nat.{ℕ, _+_, _<_, _≤_}
 use native.Mathlib.Omega.{arith}
+use lib.Dec.{ltb, eqb}
 use lib.ListN.{length}
+use borrow.Author.Tests.{lt-ltb, ltb-true, ltb-false}
+use Rattle.paper.specs.Base.{word16}
 use Rattle.paper.specs.Sets.{empty}
 use Rattle.paper.specs.Types.{Ty}
 use Rattle.paper.specs.Expressions.{Exp, expSize}
@@ -77,3 +81,24 @@ module _ (s : List ℕ) where
 
   pub accepted-iff : (t : Ty) → (verdict s ≡ ok t) ↔ Accepted s t
   accepted-iff t = (accepted, is-accepted)
+
+-- a refusal's place is at most 4,096: it is 0 for an image that is longer
+module _ (s : List ℕ) where
+  either : (a b c : Bool) → b ≡ true → a || b || c ≡ true
+  either true b c e = refl
+  either false b c e = rw e
+
+  long-wrong : 4096 < length s → readImage s ≡ wrong 2 0
+  unfolding readImage
+  long-wrong h = rw (either (ltb (length s) 3) (ltb 4096 (length s)) (not (eqb (word16 s 0 + 2) (length s))) (lt-ltb 4096 (length s) h))
+
+  long-refused : 4096 < length s → verdict s ≡ refused 2 0
+  unfolding verdict
+  long-refused h = rw (long-wrong h, verdict)
+
+  pub refused-place : {n p : ℕ} → verdict s ≡ refused n p → p ≤ 4096
+  refused-place {n} {p} q = go (ltb 4096 (length s)) refl
+    where
+      go : (b : Bool) → ltb 4096 (length s) ≡ b → p ≤ 4096
+      go true e = let l = long-refused (ltb-true 4096 (length s) e) in let z : p ≡ 0 = cc in omega arith
+      go false e = let h = ltb-false 4096 (length s) e in let i = refused-listed s q .place in omega arith

@@ -32,10 +32,10 @@ unfoldable pub hex : List ℕ → List ℕ
 hex [] = []
 hex (b ∷ s) = hexDigit (b / 16) ∷ hexDigit (b % 16) ∷ hex s
 
-abbrev blank : ℕ
+abbrev pub blank : ℕ
 blank = 0x20
 
-abbrev newline : List ℕ
+abbrev pub newline : List ℕ
 newline = 0x0A ∷ []
 
 -- three numbers, between blanks
@@ -43,16 +43,16 @@ unfoldable pub three : ℕ → ℕ → ℕ → List ℕ
 three a b c = decimal a ++ (blank ∷ decimal b) ++ (blank ∷ decimal c) ++ newline
 
 -- the words `accept `, `refuse `, `load ` and `race `
-abbrev accept : List ℕ
+abbrev pub accept : List ℕ
 accept = 0x61 ∷ 0x63 ∷ 0x63 ∷ 0x65 ∷ 0x70 ∷ 0x74 ∷ blank ∷ []
 
-abbrev refuse : List ℕ
+abbrev pub refuse : List ℕ
 refuse = 0x72 ∷ 0x65 ∷ 0x66 ∷ 0x75 ∷ 0x73 ∷ 0x65 ∷ blank ∷ []
 
-abbrev load : List ℕ
+abbrev pub load : List ℕ
 load = 0x6C ∷ 0x6F ∷ 0x61 ∷ 0x64 ∷ blank ∷ []
 
-abbrev raceWord : List ℕ
+abbrev pub raceWord : List ℕ
 raceWord = 0x72 ∷ 0x61 ∷ 0x63 ∷ 0x65 ∷ blank ∷ []
 
 -- ---- "The judge program prints one line from an image on standard input: `accept` and the type (capital hex digits, no gaps), or `refuse`, number,

@@ -1,0 +1,10 @@
+pub mod SetBits
+pub mod Held
+pub mod Inversion
+pub mod Stated
+pub mod Cases
+pub mod Node
+pub mod Walked
+pub mod Agree
+pub mod Gone
+pub mod Buffer

@@ -1,0 +1,61 @@
+-- `judging::binding::bind` meets its contract.
+use Rattle.judging.proofs.binding.Env.{bind-movable, here, bind-other, bind-let}
+use borrow.Author.Needs.{needs}
+use Rattle.judging.proofs.binding.bind.Statement.{statement}
+use Rattle.judging.proofs.binding.bind.Tie as tie
+
+shared-slice-read-code : tie.Need-shared-slice-read-code
+shared-slice-read-code c =
+    let at-start = c .before .before .before in
+    here (at-start .pre .ready)
+
+var-at-requires : tie.Need-var-at-requires
+var-at-requires c κs = search needs
+
+slot-of-requires : tie.Need-slot-of-requires
+slot-of-requires c κs = search needs
+
+copy-requires : tie.Need-copy-requires
+copy-requires c κs =
+    let at-slot-of = c in
+    let at-var-at = c .before .before in
+    let at-start = c .before .before .before .before .before .before .before in
+    rw (at-slot-of .slot-of .ensures, at-var-at .var-at .ensures) (bind-movable (at-start .pre .ready) (at-start .pre .type) (at-start .pre .there))
+
+add-work : tie.Need-add-work
+add-work c = search needs
+
+slice-write-work : tie.Need-slice-write-work
+slice-write-work c = search needs
+
+same-length : tie.Need-same-length
+same-length c = search needs
+
+returns : tie.Need-returns
+returns c =
+    let at-copy = c .before .before in
+    let at-slot-of = c .before .before .before in
+    let at-var-at = c .before .before .before .before .before in
+    let at-if1 = c .before .before .before .before .before .before in
+    let at-start = c .before .before .before .before .before .before .before .before .before .before in
+    rw (at-var-at .var-at .ensures) (bind-let (at-start .pre .ready) _ (at-if1 .if1 .taken) (rw (at-slot-of .slot-of .ensures, at-var-at .var-at .ensures) at (at-copy .copy .ensures)))
+
+returns-2 : tie.Need-returns-2
+returns-2 c =
+    let at-if1 = c in
+    let at-start = c .before .before .before .before in
+    bind-other (at-start .pre .ready) (at-if1 .if1 .left)
+
+pub bind-spec : {M : Type 1} → statement M
+bind-spec =
+    tie.close
+    (tie.spec
+    shared-slice-read-code
+    var-at-requires
+    slot-of-requires
+    copy-requires
+    add-work
+    slice-write-work
+    same-length
+    returns
+    returns-2)

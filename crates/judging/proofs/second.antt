@@ -1,0 +1,5 @@
+pub mod Plain
+pub mod Apply
+pub mod Write
+pub mod Cond
+pub mod Third

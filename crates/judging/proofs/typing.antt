@@ -1,0 +1,4 @@
+pub mod Parts
+pub mod One
+pub mod Two
+pub mod Three

@@ -1,0 +1,214 @@
+-- The walk over an expression's first part: what the calls may ask, and what each way out answers. Each law is for any reading of the
+-- expression and any types of its variables that there may be: `Ready` is such a reading.
+use mathlib.Core.Path.{_≡_, refl, ap, sym, _∙_, subst}
+use mathlib.Core.List.{List}
+use Prim.Native.Nat.{ℕ, _+_, _-_, _^_, _<_}
+use native.Mathlib.Omega.{arith}
+use lib.ListN.{length, getD}
+use Rattle.paper.specs.Types.{Ty}
+use Rattle.paper.specs.Reading.{got}
+use Rattle.reading.specs.First.{expAt}
+use Rattle.reading.specs.Walk.{parts, binds1, locks1}
+use Rattle.reading.proofs.first.Laws.{lock-room}
+use Rattle.judging.specs.declared.work.Answer.{Answer}
+use Rattle.judging.specs.declared.work.Answer.the-variants.{Typed, Refused}
+use Rattle.judging.specs.declared.work.Step.{Step}
+use Rattle.judging.specs.declared.work.Step.the-variants.{Go, Stop}
+use Rattle.judging.specs.Rules.{typed, refused, _next_, judge}
+use Rattle.judging.specs.Phases.{partsOf, env1, after1}
+use Rattle.judging.specs.Work.{Env, Frame, InSlot}
+use Rattle.judging.specs.Contract.{Out, StepOut, Ready, Finds, Entered, Bindable, Given, First, Kept1, Some1, Starts}
+use Rattle.judging.proofs.Walked.{walked}
+use Rattle.judging.proofs.Node.{count, read-whole}
+use Rattle.judging.proofs.Buffer.{env-same, frame-then, frame-part, frame-env, frame-slot, out-refused, Gave, out-typed, step-stop, Went, step-go}
+use Rattle.judging.proofs.typing.Parts.{parts-some, binds1-le, head, rest1, walk-1, refused-next, typed-then, Then1, part-1, place-of, place1-head, one-more, one-rest}
+
+pub less-left : (left t : ℕ) → left ≡ t → (left ≡ 0 → ⊥) → left - 1 < t
+less-left left t e z = omega arith
+
+module _ {img w : List ℕ} {at v n left : ℕ} where
+  pub inside : Ready img w at v n left → at < length img
+  inside R = read-whole left v n img at (R .x) (R .next) (R .reads) .inn
+
+  pub some-left : Ready img w at v n left → left ≡ 0 → ⊥
+  some-left R = read-whole left v n img at (R .x) (R .next) (R .reads) .more
+
+  -- what is found is found for every reading
+  pub finds : {w′ : List ℕ} {r : Answer} → Ready img w at v n left → Frame w w′ v left
+      → ((R : Ready img w at v n left) → Out w′ left n (R .next) (judge (R .env) (R .x)) r) → Finds img w w′ at v n left r
+  finds R f h =
+      record {
+        frame = f;
+        says = λ x nx env p g. h (record { x = x; next = nx; env = env; reads = p; held = g; deep = R .deep; few = R .few; room = R .room });
+      }
+
+  pub given : (R : Ready img w at v n left) (w′ : List ℕ) → length w′ ≡ length w → Given img w′ at v n left (R .x)
+  given R w′ l = record { next = R .next; reads = R .reads; few = R .few; deep = R .deep; room = rw l (R .room) }
+
+-- ---- the call of the first part is due: its place is known, and what it binds is bound
+
+pub record Started (img w w1 : List ℕ) (at v n left p1 : ℕ) : Type 0 where
+  pub ready : Ready img w at v n left
+  pub big : 3 < getD img at 0
+  pub starts : Starts img at v n p1
+  pub entered : Entered img w w1 at v n
+
+-- what the step after the first part leaves: a type in the slot, the need so far, and what the rules' judge still does
+pub record Goes1 (img w w3 : List ℕ) (at v n left p2 l1 : ℕ) (R : Ready img w at v n left) : Type 0 where
+  pub type : Ty
+  pub was : Kept1 (R .x) type l1
+  pub slotted : InSlot w3 left n type
+  pub small : l1 < 2 ^ n
+  pub on : judge (R .env) (R .x) ≡ rest1 (R .env) (R .x) (partsOf (R .x)) type l1
+  pub not0 : count (partsOf (R .x)) ≡ 0 → ⊥
+  pub many : parts (getD img at 0) ≡ count (partsOf (R .x))
+  pub more : Then1 (left - 1) v n img (getD img at 0) p2 (R .next) (partsOf (R .x))
+
+pub record After1 (img w w3 : List ℕ) (at v n left p2 l1 : ℕ) : Type 0 where
+  pub ready : Ready img w at v n left
+  pub frame : Frame w w3 v left
+  pub each : (R : Ready img w at v n left) → Goes1 img w w3 at v n left p2 l1 R
+
+module _ {img w w1 : List ℕ} {at v n left p1 : ℕ} (S : Started img w w1 at v n left p1) where
+  record Read1 (R : Ready img w at v n left) : Type 0 where
+    q : ℕ
+    not0 : count (partsOf (R .x)) ≡ 0 → ⊥
+    many : parts (getD img at 0) ≡ count (partsOf (R .x))
+    first : expAt (left - 1) (v + binds1 (getD img at 0)) (n + locks1 (getD img at 0)) img p1 ≡ got (head (partsOf (R .x))) q
+    more : Then1 (left - 1) v n img (getD img at 0) q (R .next) (partsOf (R .x))
+
+  read-1 : (R : Ready img w at v n left) → Read1 R
+  read-1 R =
+      let W = read-whole left v n img at (R .x) (R .next) (R .reads) in
+      let N = W .is in
+      let z : count (partsOf (R .x)) ≡ 0 → ⊥ = λ y. parts-some (getD img at 0) (W .some) (W .most) (S .big) (N .how-many ∙ y) in
+      let P = part-1 (left - 1) v n img (getD img at 0) (N .start) (R .next) (partsOf (R .x)) z (N .inside) in
+      let s : N .start ≡ p1 = cc (N .own, S .starts) in
+      record {
+        q = P .0;
+        not0 = z;
+        many = N .how-many;
+        first = subst (λ (p : ℕ). expAt (left - 1) (v + binds1 (getD img at 0)) (n + locks1 (getD img at 0)) img p ≡ got (head (partsOf (R .x))) (P .0)) s (P .1);
+        more = P .2;
+      }
+
+  held-1 : (R : Ready img w at v n left) → Env w1 (v + binds1 (getD img at 0)) (n + locks1 (getD img at 0)) (env1 (R .x) (R .env))
+  held-1 R = S .entered .says left (R .x) (R .next) (R .env) (R .reads) (R .held)
+
+  pub ready-1 : Ready img w1 p1 (v + binds1 (getD img at 0)) (n + locks1 (getD img at 0)) (left - 1)
+  ready-1 =
+      let R = S .ready in
+      let W = read-whole left v n img at (R .x) (R .next) (R .reads) in
+      let l1 = binds1-le (getD img at 0) (W .some) (W .most) in
+      let l2 : left ≡ 0 → ⊥ = W .more in
+      record {
+        x = head (partsOf (R .x));
+        next = read-1 R .q;
+        env = env1 (R .x) (R .env);
+        reads = read-1 R .first;
+        held = held-1 R;
+        deep = omega (arith, R .deep);
+        few = lock-room (getD img at 0) v n img at refl (W .is .own) refl (R .few);
+        room = omega (arith, R .room, S .entered .change .long);
+      }
+
+  -- after the call
+  module _ {r1 : Answer} {w2 : List ℕ} (J1 : Finds img w1 w2 p1 (v + binds1 (getD img at 0)) (n + locks1 (getD img at 0)) (left - 1) r1) where
+    frame-2 : Frame w w2 v left
+    frame-2 =
+        let R = S .ready in
+        frame-then v left (frame-env v left (S .entered .change) (omega (arith, R .deep)))
+        (frame-part v left (binds1 (getD img at 0)) (J1 .frame) (omega (arith, R .deep)))
+
+    out-1 : (R : Ready img w at v n left) → Out w2 (left - 1) (n + locks1 (getD img at 0)) (read-1 R .q) (judge (env1 (R .x) (R .env)) (head (partsOf (R .x)))) r1
+    out-1 R = J1 .says (head (partsOf (R .x))) (read-1 R .q) (env1 (R .x) (R .env)) (read-1 R .first) (held-1 R)
+
+    whole-1 : (R : Ready img w at v n left)
+        → (judge (env1 (R .x) (R .env)) (head (partsOf (R .x))) next λ t m. after1 (R .x) t m next λ k l. rest1 (R .env) (R .x) (partsOf (R .x)) k l)
+        ≡ judge (R .env) (R .x)
+    whole-1 R = walk-1 (R .env) (R .x) (partsOf (R .x)) (read-1 R .not0) ∙ sym (walked (R .env) (R .x))
+
+    pub refused-1 : {k p : ℕ} → r1 ≡ Refused k p → Finds img w w2 at v n left (Refused k p)
+    refused-1 {k} {p} f =
+        finds (S .ready) frame-2 λ R.
+        let z = out-refused w2 (left - 1) (n + locks1 (getD img at 0)) (read-1 R .q) _ (out-1 R) f in
+        let y : judge (R .env) (R .x) ≡ refused k p = sym (whole-1 R) ∙ refused-next _ z in
+        rw y
+
+    -- the part has a type
+    module _ {p2 m1 : ℕ} (T1 : r1 ≡ Typed p2 m1) where
+      gave-1 : (R : Ready img w at v n left) → Gave w2 (left - 1) (n + locks1 (getD img at 0)) (read-1 R .q) (judge (env1 (R .x) (R .env)) (head (partsOf (R .x)))) p2 m1
+      gave-1 R = out-typed w2 (left - 1) (n + locks1 (getD img at 0)) (read-1 R .q) _ (out-1 R) T1
+
+      pub some-1 : Some1 img w2 at n left
+      some-1 = let R = S .ready in let g = gave-1 R in (v, R .x, given R w2 (frame-2 .long), g .type, g .slotted)
+
+      -- after `after_first`
+      module _ {s1 : Step} {w3 : List ℕ} (A1 : First img w2 w3 at n left p1 m1 s1) where
+        frame-3 : Frame w w3 v left
+        frame-3 = frame-then v left frame-2 (frame-slot v left (A1 .kept) (S .ready .deep))
+
+        step-1 : (R : Ready img w at v n left) → StepOut w3 left n (after1 (R .x) (gave-1 R .type) m1) s1
+        step-1 R =
+            A1 .says v (R .x) (given R w2 (frame-2 .long))
+            (place1-head (partsOf (R .x)) (read-1 R .not0) ∙ place-of (left - 1) (v + binds1 (getD img at 0)) (n + locks1 (getD img at 0)) img p1 (head (partsOf (R .x))) (read-1 R .q) (read-1 R .first))
+            (gave-1 R .type) (gave-1 R .slotted) (gave-1 R .small)
+
+        from-1 : (R : Ready img w at v n left) → judge (R .env) (R .x) ≡ (after1 (R .x) (gave-1 R .type) m1 next λ k l. rest1 (R .env) (R .x) (partsOf (R .x)) k l)
+        from-1 R = sym (whole-1 R) ∙ typed-then _ (gave-1 R .is)
+
+        pub stop-1 : {k p : ℕ} → s1 ≡ Stop k p → Finds img w w3 at v n left (Refused k p)
+        stop-1 {k} {p} f =
+            finds (S .ready) frame-3 λ R.
+            let z = step-stop w3 left n _ (step-1 R) f in
+            let y : judge (R .env) (R .x) ≡ refused k p = from-1 R ∙ refused-next _ z in
+            rw y
+
+        pub after-1 : {l1 : ℕ} → s1 ≡ Go l1 → After1 img w w3 at v n left p2 l1
+        after-1 {l1} f = record { ready = S .ready; frame = frame-3; each = goes }
+          where
+            goes : (R : Ready img w at v n left) → Goes1 img w w3 at v n left p2 l1 R
+            goes R =
+                let W : Went w3 left n (after1 (R .x) (gave-1 R .type) m1) l1 = step-go w3 left n _ (step-1 R) f in
+                record {
+                  type = W .type;
+                  was = (gave-1 R .type, m1, W .is);
+                  slotted = W .slotted;
+                  small = W .small;
+                  on = from-1 R ∙ typed-then _ (W .is);
+                  not0 = read-1 R .not0;
+                  many = read-1 R .many;
+                  more = subst (λ (q : ℕ). Then1 (left - 1) v n img (getD img at 0) q (R .next) (partsOf (R .x))) (gave-1 R .next-is) (read-1 R .more);
+                }
+
+-- ---- the step after the first part went on
+
+module _ {img w w3 : List ℕ} {at v n left p2 l1 : ℕ} (A : After1 img w w3 at v n left p2 l1) where
+  -- there is no second part
+  pub done-1 : parts (getD img at 0) ≡ 1 → Finds img w w3 at v n left (Typed p2 l1)
+  done-1 f =
+      finds (A .ready) (A .frame) λ R.
+      let G = A .each R in
+      let z : count (partsOf (R .x)) ≡ 1 = sym (G .many) ∙ f in
+      let y : judge (R .env) (R .x) ≡ typed (G .type) l1 = G .on ∙ one-rest (R .env) (R .x) (partsOf (R .x)) _ l1 z in
+      let q : p2 ≡ R .next = one-more (left - 1) v n img (getD img at 0) p2 (R .next) (partsOf (R .x)) z (G .more) in
+      rw y (ap (λ (p : ℕ). Typed p l1) q, G .slotted, G .small)
+
+  -- there is one
+  pub ready-bind : Bindable img w3 at v n left
+  ready-bind =
+      let R = A .ready in
+      record {
+        ready = record {
+          x = R .x;
+          next = R .next;
+          env = R .env;
+          reads = R .reads;
+          held = env-same w w3 v n (R .env) (A .frame .long) (A .frame .vars) (R .held);
+          deep = R .deep;
+          few = R .few;
+          room = rw (A .frame .long) (R .room);
+        };
+        type = A .each R .type;
+        there = A .each R .slotted;
+      }

@@ -1,0 +1,165 @@
+-- The walk over an expression's second part: what the calls may ask, and what each way out answers.
+use mathlib.Core.Path.{_≡_, ap, sym, _∙_, subst}
+use mathlib.Core.List.{List}
+use Prim.Native.Nat.{ℕ, _+_, _-_, _^_, _<_}
+use native.Mathlib.Omega.{arith}
+use lib.ListN.{getD}
+use Rattle.paper.specs.Types.{Ty}
+use Rattle.paper.specs.Reading.{got}
+use Rattle.reading.specs.First.{expAt}
+use Rattle.reading.specs.Walk.{parts, binds2}
+use Rattle.judging.specs.declared.work.Answer.{Answer}
+use Rattle.judging.specs.declared.work.Answer.the-variants.{Typed, Refused}
+use Rattle.judging.specs.declared.work.Step.{Step}
+use Rattle.judging.specs.declared.work.Step.the-variants.{Go, Stop}
+use Rattle.judging.specs.Rules.{typed, refused, _next_, judge}
+use Rattle.judging.specs.Phases.{partsOf, env2, after2}
+use Rattle.judging.specs.Work.{Env, Frame, InSlot}
+use Rattle.judging.specs.Contract.{Out, StepOut, Ready, Finds, Bound, Second, Some2}
+use Rattle.judging.proofs.Node.{count, read-whole}
+use Rattle.judging.proofs.Buffer.{env-same, slot-same, frame-then, frame-part, frame-env, frame-slot, out-refused, Gave, out-typed, step-stop, Went, step-go}
+use Rattle.judging.proofs.typing.Parts.{binds2-le, second, rest2, refused-next, typed-then, Then2, part-2, place-of, place2-second, two-rest, two-more, two-last}
+use Rattle.judging.proofs.typing.One.{finds, given, some-left, After1}
+
+-- what the step after the second part leaves: a type in the slot, the need so far, and what the rules' judge still does
+pub record Goes2 (img w w6 : List ℕ) (at v n left p3 l2 : ℕ) (R : Ready img w at v n left) : Type 0 where
+  pub type : Ty
+  pub slotted : InSlot w6 left n type
+  pub small : l2 < 2 ^ n
+  pub on : judge (R .env) (R .x) ≡ rest2 (R .env) (R .x) (partsOf (R .x)) type l2
+  pub not0 : count (partsOf (R .x)) ≡ 0 → ⊥
+  pub not1 : count (partsOf (R .x)) ≡ 1 → ⊥
+  pub many : parts (getD img at 0) ≡ count (partsOf (R .x))
+  pub more : Then2 (left - 1) v n img p3 (R .next) (partsOf (R .x))
+
+pub record After2 (img w w6 : List ℕ) (at v n left p3 l2 : ℕ) : Type 0 where
+  pub ready : Ready img w at v n left
+  pub frame : Frame w w6 v left
+  pub each : (R : Ready img w at v n left) → Goes2 img w w6 at v n left p3 l2 R
+
+-- ---- the call of the second part is due: what it binds is bound
+
+pub record Due2 (img w w3 w4 : List ℕ) (at v n left p2 l1 : ℕ) : Type 0 where
+  pub after : After1 img w w3 at v n left p2 l1
+  pub more : parts (getD img at 0) ≡ 1 → ⊥
+  pub bound : Bound img w3 w4 at v n left
+
+module _ {img w w3 w4 : List ℕ} {at v n left p2 l1 : ℕ} (D : Due2 img w w3 w4 at v n left p2 l1) where
+  frame-4 : Frame w w4 v left
+  frame-4 = frame-then v left (D .after .frame) (frame-env v left (D .bound .change) (omega (arith, D .after .ready .deep)))
+
+  more1 : (R : Ready img w at v n left) → count (partsOf (R .x)) ≡ 1 → ⊥
+  more1 R e = D .more (D .after .each R .many ∙ e)
+
+  record Read2 (R : Ready img w at v n left) : Type 0 where
+    q : ℕ
+    part : expAt (left - 1) (v + binds2 (getD img at 0)) n img p2 ≡ got (second (partsOf (R .x))) q
+    after : Then2 (left - 1) v n img q (R .next) (partsOf (R .x))
+
+  read-2 : (R : Ready img w at v n left) → Read2 R
+  read-2 R =
+      let P = part-2 (left - 1) v n img (getD img at 0) p2 (R .next) (partsOf (R .x)) (D .after .each R .not0) (more1 R) (D .after .each R .more) in
+      record { q = P .0; part = P .1; after = P .2 }
+
+  held-2 : (R : Ready img w at v n left) → Env w4 (v + binds2 (getD img at 0)) n (env2 (R .x) (D .after .each R .type) (R .env))
+  held-2 R =
+      D .bound .says (R .x) (R .next) (R .env) (D .after .each R .type) (R .reads) (env-same w w3 v n (R .env) (D .after .frame .long) (D .after .frame .vars) (R .held)) (D .after .each R .slotted)
+
+  pub ready-2 : Ready img w4 p2 (v + binds2 (getD img at 0)) n (left - 1)
+  ready-2 =
+      let R = D .after .ready in
+      let W = read-whole left v n img at (R .x) (R .next) (R .reads) in
+      let b2 = binds2-le (getD img at 0) (W .some) (W .most) in
+      let l2 : left ≡ 0 → ⊥ = W .more in
+      record {
+        x = second (partsOf (R .x));
+        next = read-2 R .q;
+        env = env2 (R .x) (D .after .each R .type) (R .env);
+        reads = read-2 R .part;
+        held = held-2 R;
+        deep = omega (arith, R .deep);
+        few = R .few;
+        room = omega (arith, R .room, frame-4 .long);
+      }
+
+  -- after the call
+  module _ {r2 : Answer} {w5 : List ℕ} (J2 : Finds img w4 w5 p2 (v + binds2 (getD img at 0)) n (left - 1) r2) where
+    pub frame-5 : Frame w w5 v left
+    frame-5 = frame-then v left frame-4 (frame-part v left (binds2 (getD img at 0)) (J2 .frame) (omega (arith, D .after .ready .deep)))
+
+    out-2 : (R : Ready img w at v n left) → Out w5 (left - 1) n (read-2 R .q) (judge (env2 (R .x) (D .after .each R .type) (R .env)) (second (partsOf (R .x)))) r2
+    out-2 R = J2 .says (second (partsOf (R .x))) (read-2 R .q) (env2 (R .x) (D .after .each R .type) (R .env)) (read-2 R .part) (held-2 R)
+
+    at-2 : (R : Ready img w at v n left)
+        → judge (R .env) (R .x) ≡ (judge (env2 (R .x) (D .after .each R .type) (R .env)) (second (partsOf (R .x))) next λ u i. after2 (R .x) (D .after .each R .type) l1 u i next λ t o. rest2 (R .env) (R .x) (partsOf (R .x)) t o)
+    at-2 R = D .after .each R .on ∙ two-rest (R .env) (R .x) (partsOf (R .x)) (D .after .each R .type) l1 (D .after .each R .not0) (more1 R)
+
+    pub refused-2 : {k p : ℕ} → r2 ≡ Refused k p → Finds img w w5 at v n left (Refused k p)
+    refused-2 {k} {p} f =
+        finds (D .after .ready) frame-5 λ R.
+        let z = out-refused w5 (left - 1) n (read-2 R .q) _ (out-2 R) f in
+        let y : judge (R .env) (R .x) ≡ refused k p = at-2 R ∙ refused-next _ z in
+        rw y
+
+    -- what the first part left is still in its slot
+    still : (R : Ready img w at v n left) → InSlot w5 left n (D .after .each R .type)
+    still R =
+        let l2 : left ≡ 0 → ⊥ = some-left R in
+        slot-same w4 w5 left n (D .after .each R .type) (J2 .frame .long) (λ i a c. J2 .frame .kept i (omega (arith, R .deep)) (omega (arith, R .deep)))
+        (slot-same w3 w4 left n (D .after .each R .type) (D .bound .change .long) (λ i a c. D .bound .change .rest i (omega (arith, R .deep))) (D .after .each R .slotted))
+
+    -- the part has a type
+    module _ {p3 m2 : ℕ} (T2 : r2 ≡ Typed p3 m2) where
+      gave-2 : (R : Ready img w at v n left) → Gave w5 (left - 1) n (read-2 R .q) (judge (env2 (R .x) (D .after .each R .type) (R .env)) (second (partsOf (R .x)))) p3 m2
+      gave-2 R = out-typed w5 (left - 1) n (read-2 R .q) _ (out-2 R) T2
+
+      pub some-2 : Some2 img w5 at n left
+      some-2 = let R = D .after .ready in let g = gave-2 R in (v, R .x, given R w5 (frame-5 .long), D .after .each R .type, still R, g .type, g .slotted, l1, D .after .each R .was)
+
+      -- after `after_second`
+      module _ {s2 : Step} {w6 : List ℕ} (A2 : Second img w5 w6 at n left p2 l1 m2 s2) where
+        pub frame-6 : Frame w w6 v left
+        frame-6 = frame-then v left frame-5 (frame-slot v left (A2 .kept) (D .after .ready .deep))
+
+        step-2 : (R : Ready img w at v n left) → StepOut w6 left n (after2 (R .x) (D .after .each R .type) l1 (gave-2 R .type) m2) s2
+        step-2 R =
+            A2 .says v (R .x) (given R w5 (frame-5 .long))
+            (place2-second (partsOf (R .x)) (D .after .each R .not0) (more1 R) ∙ place-of (left - 1) (v + binds2 (getD img at 0)) n img p2 (second (partsOf (R .x))) (read-2 R .q) (read-2 R .part))
+            (D .after .each R .type) (D .after .each R .was) (still R) (D .after .each R .small) (gave-2 R .type) (gave-2 R .slotted) (gave-2 R .small)
+
+        from-2 : (R : Ready img w at v n left) → judge (R .env) (R .x) ≡ (after2 (R .x) (D .after .each R .type) l1 (gave-2 R .type) m2 next λ t o. rest2 (R .env) (R .x) (partsOf (R .x)) t o)
+        from-2 R = at-2 R ∙ typed-then _ (gave-2 R .is)
+
+        pub stop-2 : {k p : ℕ} → s2 ≡ Stop k p → Finds img w w6 at v n left (Refused k p)
+        stop-2 {k} {p} f =
+            finds (D .after .ready) frame-6 λ R.
+            let z = step-stop w6 left n _ (step-2 R) f in
+            let y : judge (R .env) (R .x) ≡ refused k p = from-2 R ∙ refused-next _ z in
+            rw y
+
+        pub after-2 : {l2 : ℕ} → s2 ≡ Go l2 → After2 img w w6 at v n left p3 l2
+        after-2 {l2} f = record { ready = D .after .ready; frame = frame-6; each = goes }
+          where
+            goes : (R : Ready img w at v n left) → Goes2 img w w6 at v n left p3 l2 R
+            goes R =
+                let W : Went w6 left n (after2 (R .x) (D .after .each R .type) l1 (gave-2 R .type) m2) l2 = step-go w6 left n _ (step-2 R) f in
+                record {
+                  type = W .type;
+                  slotted = W .slotted;
+                  small = W .small;
+                  on = from-2 R ∙ typed-then _ (W .is);
+                  not0 = D .after .each R .not0;
+                  not1 = more1 R;
+                  many = D .after .each R .many;
+                  more = subst (λ (q : ℕ). Then2 (left - 1) v n img q (R .next) (partsOf (R .x))) (gave-2 R .next-is) (read-2 R .after);
+                }
+
+-- ---- the step after the second part went on, and there is no third
+pub done-2 : {img w w6 : List ℕ} {at v n left p3 l2 : ℕ} → After2 img w w6 at v n left p3 l2 → parts (getD img at 0) ≡ 2 → Finds img w w6 at v n left (Typed p3 l2)
+done-2 {img} {left = left} {p3 = p3} {l2 = l2} A f =
+    finds (A .ready) (A .frame) λ R.
+    let G = A .each R in
+    let z : count (partsOf (R .x)) ≡ 2 = sym (G .many) ∙ f in
+    let y : judge (R .env) (R .x) ≡ typed (G .type) l2 = G .on ∙ two-last (R .env) (R .x) (partsOf (R .x)) _ l2 z in
+    let q : p3 ≡ R .next = two-more (left - 1) _ _ img p3 (R .next) (partsOf (R .x)) z (G .more) in
+    rw y (ap (λ (p : ℕ). Typed p l2) q, G .slotted, G .small)

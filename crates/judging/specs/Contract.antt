@@ -1,0 +1,149 @@
+-- What the judging functions ask and answer. They ask for an expression that was read at a place, with its variables' types in the work
+-- buffer (`Ready`); and they answer for every such reading, so that none has to be the only one.
+use Prim.Native.Nat.{ℕ, _+_, _-_, _*_, _^_, _<_, _≤_}
+use mathlib.Core.Path.{_≡_}
+use mathlib.Core.List.{List}
+use lib.ListN.{length, getD}
+use Rattle.paper.specs.Types.{Ty}
+use Rattle.paper.specs.Reading.{got}
+use Rattle.judging.specs.Holds.{Kept}
+use Rattle.types.specs.declared.stated.Got.the-variants.{Next}
+use Rattle.reading.specs.Placed.{Exp, placeOf}
+use Rattle.reading.specs.First.{expAt}
+use Rattle.reading.specs.Walk.{fields, binds1, locks1, binds2}
+use Rattle.judging.specs.Rules.{Judged, typed, refused, judge}
+use Rattle.judging.specs.declared.work.Answer.{Answer}
+use Rattle.judging.specs.declared.work.Answer.the-variants.{Typed, Refused}
+use Rattle.judging.specs.declared.work.Step.{Step}
+use Rattle.judging.specs.declared.work.Step.the-variants.{Go, Stop}
+use Rattle.judging.specs.Phases.{Parts, none, one, two, three, partsOf, env1, env2, after1, after2, after3}
+use Rattle.judging.specs.Work.{slot, Env, Frame, InSlot}
+
+-- an answer, with the type in the slot
+abbrev pub Out : List ℕ → ℕ → ℕ → ℕ → Judged → Answer → Type 0
+Out w left n next (typed t m) r = (r ≡ Typed next m) × InSlot w left n t × (m < 2 ^ n)
+Out w left n next (refused k p) r = r ≡ Refused k p
+
+abbrev pub StepOut : List ℕ → ℕ → ℕ → Judged → Step → Type 0
+StepOut w left n (typed t m) r = (r ≡ Go m) × InSlot w left n t × (m < 2 ^ n)
+StepOut w left n (refused k p) r = r ≡ Stop k p
+
+pub record Ready (img w : List ℕ) (at v n left : ℕ) : Type 0 where
+  pub x : Exp
+  pub next : ℕ
+  pub env : List Ty
+  pub reads : expAt left v n img at ≡ got x next
+  pub held : Env w v n env
+  pub deep : v + left ≤ 64
+  pub few : n ≤ 32
+  pub room : 40960 ≤ length w
+
+pub record Finds (img w w′ : List ℕ) (at v n left : ℕ) (r : Answer) : Type 0 where
+  pub frame : Frame w w′ v left
+  pub says : (x : Exp) (next : ℕ) (env : List Ty) → expAt left v n img at ≡ got x next → Env w v n env → Out w′ left n next (judge env x) r
+
+-- only the slots of variables from v on change
+pub record EnvChange (w w′ : List ℕ) (v : ℕ) : Type 0 where
+  pub long : length w′ ≡ length w
+  pub vars : (i : ℕ) → i < 320 * v → getD w′ i 0 ≡ getD w i 0
+  pub rest : (i : ℕ) → 20480 ≤ i → getD w′ i 0 ≡ getD w i 0
+
+pub record Entered (img w w′ : List ℕ) (at v n : ℕ) : Type 0 where
+  pub change : EnvChange w w′ v
+  pub says : (left : ℕ) (x : Exp) (next : ℕ) (env : List Ty) → expAt left v n img at ≡ got x next → Env w v n env → Env w′ (v + binds1 (getD img at 0)) (n + locks1 (getD img at 0)) (env1 x env)
+
+-- what binding is given: the first part's type stands in the slot
+pub record Bindable (img w : List ℕ) (at v n left : ℕ) : Type 0 where
+  pub ready : Ready img w at v n left
+  pub type : Ty
+  pub there : InSlot w left n type
+
+pub record Bound (img w w′ : List ℕ) (at v n left : ℕ) : Type 0 where
+  pub change : EnvChange w w′ v
+  pub says : (x : Exp) (next : ℕ) (env : List Ty) (k : Ty) → expAt left v n img at ≡ got x next → Env w v n env → InSlot w left n k → Env w′ (v + binds2 (getD img at 0)) n (env2 x k env)
+
+-- the place of a part
+abbrev pub place1 : Parts → ℕ
+place1 none = 0
+place1 (one a) = placeOf a
+place1 (two a b) = placeOf a
+place1 (three a b c) = placeOf a
+
+abbrev pub place2 : Parts → ℕ
+place2 none = 0
+place2 (one a) = 0
+place2 (two a b) = placeOf b
+place2 (three a b c) = placeOf b
+
+abbrev pub place3 : Parts → ℕ
+place3 none = 0
+place3 (one a) = 0
+place3 (two a b) = 0
+place3 (three a b c) = placeOf c
+
+-- what a step after a part is given; the part gave t and m
+pub record Given (img w : List ℕ) (at v n left : ℕ) (x : Exp) : Type 0 where
+  pub next : ℕ
+  pub reads : expAt left v n img at ≡ got x next
+  pub few : n ≤ 32
+  pub deep : v + left ≤ 64
+  pub room : 40960 ≤ length w
+
+pub record First (img w w′ : List ℕ) (at n left part need : ℕ) (r : Step) : Type 0 where
+  pub kept : Kept w w′ (slot left) (slot left + 256)
+  pub says : (v : ℕ) (x : Exp) → Given img w at v n left x → place1 (partsOf x) ≡ part → (t : Ty) → InSlot w (left - 1) (n + locks1 (getD img at 0)) t → need < 2 ^ (n + locks1 (getD img at 0)) → StepOut w′ left n (after1 x t need) r
+
+-- k and m are what the step after the first part kept
+abbrev pub Kept1 : Exp → Ty → ℕ → Type 0
+Kept1 x k m = (t : Ty) × (i : ℕ) × (after1 x t i ≡ typed k m)
+
+pub record Second (img w w′ : List ℕ) (at n left part m need : ℕ) (r : Step) : Type 0 where
+  pub kept : Kept w w′ (slot left) (slot left + 256)
+  pub says : (v : ℕ) (x : Exp) → Given img w at v n left x → place2 (partsOf x) ≡ part → (k : Ty) → Kept1 x k m → InSlot w left n k → m < 2 ^ n → (u : Ty) → InSlot w (left - 1) n u → need < 2 ^ n → StepOut w′ left n (after2 x k m u need) r
+
+pub record Third (img w w′ : List ℕ) (at n left part m need : ℕ) (r : Step) : Type 0 where
+  pub kept : Kept w w′ (slot left) (slot left + 256)
+  pub says : (v : ℕ) (x : Exp) → Given img w at v n left x → place3 (partsOf x) ≡ part → m < 2 ^ n → (u : Ty) → InSlot w (left - 1) n u → need < 2 ^ n → StepOut w′ left n (after3 x m u need) r
+
+-- some expression stands there, and its parts so far gave types
+abbrev pub Some1 : List ℕ → List ℕ → ℕ → ℕ → ℕ → Type 0
+Some1 img w at n left = (v : ℕ) × (x : Exp) × Given img w at v n left x × (t : Ty) × InSlot w (left - 1) (n + locks1 (getD img at 0)) t
+
+abbrev pub Some2 : List ℕ → List ℕ → ℕ → ℕ → ℕ → Type 0
+Some2 img w at n left = (v : ℕ) × (x : Exp) × Given img w at v n left x × (k : Ty) × InSlot w left n k × (u : Ty) × InSlot w (left - 1) n u × (m : ℕ) × Kept1 x k m
+
+abbrev pub Some3 : List ℕ → List ℕ → ℕ → ℕ → ℕ → Type 0
+Some3 img w at n left = (v : ℕ) × (x : Exp) × Given img w at v n left x × (getD img at 0 ≡ 15) × (u : Ty) × InSlot w (left - 1) n u
+
+abbrev pub Starts : List ℕ → ℕ → ℕ → ℕ → ℕ → Type 0
+Starts img at v n p = fields (getD img at 0) v n img at ≡ Next p
+
+abbrev pub Read : List ℕ → ℕ → ℕ → ℕ → Type 0
+Read img at v n = (n ≤ 32) × (left : ℕ) × (x : Exp) × (next : ℕ) × (expAt left v n img at ≡ got x next)
+
+-- the codes whose first part is only kept, and those whose first part has to be of a kind
+pub data Due : ℕ → ℕ → Type 0 where
+  due5 : {b k : ℕ} → b ≡ 5 → k ≡ 36 → Due b k
+  due8 : {b k : ℕ} → b ≡ 8 → k ≡ 35 → Due b k
+  due11 : {b k : ℕ} → b ≡ 11 → k ≡ 34 → Due b k
+  due14 : {b k : ℕ} → b ≡ 14 → k ≡ 33 → Due b k
+  due15 : {b k : ℕ} → b ≡ 15 → k ≡ 33 → Due b k
+
+pub record Plain1 (b : ℕ) : Type 0 where
+  pub not4 : b ≡ 4 → ⊥
+  pub not5 : b ≡ 5 → ⊥
+  pub not6 : b ≡ 6 → ⊥
+  pub not7 : b ≡ 7 → ⊥
+  pub not8 : b ≡ 8 → ⊥
+  pub not9 : b ≡ 9 → ⊥
+  pub not10 : b ≡ 10 → ⊥
+  pub not11 : b ≡ 11 → ⊥
+  pub not14 : b ≡ 14 → ⊥
+  pub not15 : b ≡ 15 → ⊥
+
+pub record Plain2 (b : ℕ) : Type 0 where
+  pub not5 : b ≡ 5 → ⊥
+  pub not8 : b ≡ 8 → ⊥
+  pub not11 : b ≡ 11 → ⊥
+  pub not14 : b ≡ 14 → ⊥
+  pub not15 : b ≡ 15 → ⊥

@@ -1,0 +1,71 @@
+// The bytes of a type, from place to place; and the clearing of the work buffer.
+ghost use mathlib.Core.Path.{_≡_};
+ghost use mathlib.Core.Logic.{_⊎_};
+ghost use Prim.Native.Nat.{ℕ, _+_, _-_, _≤_, _<_};
+ghost use lib.ListN.{length, getD};
+ghost use Rattle.judging.specs.Copies.{Movable, Moved, Copied, Some, Ends, Givable, Given};
+ghost use Rattle.paper.specs.Calls.{zeroed};
+
+// The place after the type at `at`.
+pub(crate) fn skip(s: &[u8], at: usize) -> usize
+    requires { ⌜ Some (now s) at ⌝ }
+    ensures { λ r. ⌜ Ends (now (s .entry)) at r ⌝ }
+{
+    let code = s[at];
+    match code {
+        34 => at + 2,
+        35 => skip(s, at + 2),
+        36 => {
+            let p = skip(s, at + 1);
+            skip(s, p + 4)
+        }
+        _ => at + 1,
+    }
+}
+
+// The type at `from`, moved down, or to where the 256 bytes from it do not reach.
+pub(crate) fn copy(w: &mut [u8], from: usize, to: usize)
+    requires { ⌜ Movable (now w) from to ⌝ }
+    ensures { λ _. ⌜ Moved (now (w .entry)) (now (w .exit)) from to ⌝ }
+{
+    let size = skip(w, from) - from;
+    let mut i = 0;
+    while i < size {
+        w[to + i] = w[from + i];
+        i += 1;
+    }
+}
+
+// n bytes of another buffer.
+pub(crate) fn copy_in(s: &[u8], from: usize, n: usize, w: &mut [u8], to: usize)
+    requires { ⌜ (from + n ≤ length (now s)) × (to + n ≤ length (now w)) ⌝ }
+    ensures { λ _. ⌜ Copied (now (s .entry)) from n (now (w .entry)) (now (w .exit)) to ⌝ }
+{
+    let mut i = 0;
+    while i < n {
+        w[to + i] = s[from + i];
+        i += 1;
+    }
+}
+
+// The type at `at`, first into another buffer; its length.
+pub(crate) fn give(s: &[u8], at: usize, w: &mut [u8]) -> usize
+    requires { ⌜ Givable (now s) at (now w) ⌝ }
+    ensures { λ r. ⌜ Given (now (s .entry)) at (now (w .entry)) (now (w .exit)) r ⌝ }
+{
+    let size = skip(s, at) - at;
+    let code = s[at];
+    w[0] = code;
+    copy_in(s, at + 1, size - 1, w, 1);
+    size
+}
+
+// The bytes of a work buffer zero.
+pub(crate) fn clear(w: &mut [u8])
+    requires { ⌜ 40960 ≤ length (now w) ⌝ }
+    ensures { λ _. ⌜ now (w .exit) ≡ zeroed (now (w .entry)) ⌝ }
+{
+    for i in 0..40960 {
+        w[i] = 0;
+    }
+}

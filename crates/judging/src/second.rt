@@ -1,0 +1,195 @@
+// After the second and third parts: the part's type stands in the slot one deeper, and in the own slot what the first step left.
+use crate::copies;
+use crate::numbers::less;
+use crate::numbers::number;
+use crate::numbers::only;
+use crate::subtype;
+use crate::subtype::Cmp;
+use crate::subtype::Mode;
+use crate::work::Step;
+use crate::work::slot_of;
+ghost use mathlib.Core.Path.{_≡_};
+ghost use lib.ListN.{getD};
+ghost use Rattle.judging.specs.Contract.{Second, Third, Some2, Some3, Plain2};
+
+// Let and then: the second part is the whole.
+fn second_plain(
+    img: &[u8],
+    at: usize,
+    part: usize,
+    work: &mut [u8],
+    locks: u8,
+    left: u8,
+    kept: u32,
+    need: u32,
+) -> Step
+    requires { ⌜ Some2 (now img) (now work) at locks left × Plain2 (getD (now img) at 0) ⌝ }
+    ensures { λ r. ⌜ Second (now (img .entry)) (now (work .entry)) (now (work .exit)) at locks left part kept need r ⌝ }
+{
+    copies::copy(work, slot_of(left - 1), slot_of(left));
+    Step::Go(kept | need)
+}
+
+// An argument is below the function's, and the result is the function's.
+fn second_app(
+    img: &[u8],
+    at: usize,
+    part: usize,
+    work: &mut [u8],
+    locks: u8,
+    left: u8,
+    kept: u32,
+    need: u32,
+) -> Step
+    requires { ⌜ Some2 (now img) (now work) at locks left × (getD (now img) at 0 ≡ 5) ⌝ }
+    ensures { λ r. ⌜ Second (now (img .entry)) (now (work .entry)) (now (work .exit)) at locks left part kept need r ⌝ }
+{
+    let to = slot_of(left);
+    match subtype::related(work, slot_of(left - 1), work, to + 1, Mode::Below) {
+        Cmp::Differ => Step::Stop(12, part),
+        Cmp::Next(_) => {
+            let p = copies::skip(work, to + 1);
+            let set = number(work, p);
+            copies::copy(work, p + 4, to);
+            Step::Go(kept | need | set)
+        }
+    }
+}
+
+// A written value is below the content, and the cell's lock is needed.
+fn second_write(
+    img: &[u8],
+    at: usize,
+    part: usize,
+    work: &mut [u8],
+    locks: u8,
+    left: u8,
+    kept: u32,
+    need: u32,
+) -> Step
+    requires { ⌜ Some2 (now img) (now work) at locks left × (getD (now img) at 0 ≡ 8) ⌝ }
+    ensures { λ r. ⌜ Second (now (img .entry)) (now (work .entry)) (now (work .exit)) at locks left part kept need r ⌝ }
+{
+    let to = slot_of(left);
+    match subtype::related(work, slot_of(left - 1), work, to + 2, Mode::Below) {
+        Cmp::Differ => Step::Stop(12, part),
+        Cmp::Next(_) => {
+            let k = work[to + 1];
+            work[to] = 32;
+            Step::Go(kept | need | only(k))
+        }
+    }
+}
+
+// A section gives its lock to e2, and to nothing else.
+fn second_sync(
+    img: &[u8],
+    at: usize,
+    part: usize,
+    work: &mut [u8],
+    locks: u8,
+    left: u8,
+    kept: u32,
+    need: u32,
+) -> Step
+    requires { ⌜ Some2 (now img) (now work) at locks left × (getD (now img) at 0 ≡ 11) ⌝ }
+    ensures { λ r. ⌜ Second (now (img .entry)) (now (work .entry)) (now (work .exit)) at locks left part kept need r ⌝ }
+{
+    let to = slot_of(left);
+    let k = work[to + 1];
+    copies::copy(work, slot_of(left - 1), to);
+    Step::Go(kept | less(need, k))
+}
+
+// Both parts are Ints.
+fn second_add(
+    img: &[u8],
+    at: usize,
+    part: usize,
+    work: &mut [u8],
+    locks: u8,
+    left: u8,
+    kept: u32,
+    need: u32,
+) -> Step
+    requires { ⌜ Some2 (now img) (now work) at locks left × (getD (now img) at 0 ≡ 14) ⌝ }
+    ensures { λ r. ⌜ Second (now (img .entry)) (now (work .entry)) (now (work .exit)) at locks left part kept need r ⌝ }
+{
+    if work[slot_of(left - 1)] != 33 {
+        return Step::Stop(11, part);
+    }
+    work[slot_of(left)] = 33;
+    Step::Go(kept | need)
+}
+
+// The branch that is taken where the number is not 0 is below the stated type.
+fn second_cond(
+    img: &[u8],
+    at: usize,
+    part: usize,
+    work: &mut [u8],
+    locks: u8,
+    left: u8,
+    kept: u32,
+    need: u32,
+) -> Step
+    requires { ⌜ Some2 (now img) (now work) at locks left × (getD (now img) at 0 ≡ 15) ⌝ }
+    ensures { λ r. ⌜ Second (now (img .entry)) (now (work .entry)) (now (work .exit)) at locks left part kept need r ⌝ }
+{
+    let from = slot_of(left - 1);
+    match subtype::related(work, from, img, at + 1, Mode::Below) {
+        Cmp::Differ => Step::Stop(12, part),
+        Cmp::Next(_) => {
+            copies::copy(work, from, slot_of(left));
+            Step::Go(kept | need)
+        }
+    }
+}
+
+pub(crate) fn after_second(
+    img: &[u8],
+    at: usize,
+    part: usize,
+    work: &mut [u8],
+    locks: u8,
+    left: u8,
+    kept: u32,
+    need: u32,
+) -> Step
+    requires { ⌜ Some2 (now img) (now work) at locks left ⌝ }
+    ensures { λ r. ⌜ Second (now (img .entry)) (now (work .entry)) (now (work .exit)) at locks left part kept need r ⌝ }
+{
+    let code = img[at];
+    match code {
+        5 => second_app(img, at, part, work, locks, left, kept, need),
+        8 => second_write(img, at, part, work, locks, left, kept, need),
+        11 => second_sync(img, at, part, work, locks, left, kept, need),
+        14 => second_add(img, at, part, work, locks, left, kept, need),
+        15 => second_cond(img, at, part, work, locks, left, kept, need),
+        _ => second_plain(img, at, part, work, locks, left, kept, need),
+    }
+}
+
+// So is the other branch, and the stated type is the conditional's.
+pub(crate) fn after_third(
+    img: &[u8],
+    at: usize,
+    part: usize,
+    work: &mut [u8],
+    locks: u8,
+    left: u8,
+    kept: u32,
+    need: u32,
+) -> Step
+    requires { ⌜ Some3 (now img) (now work) at locks left ⌝ }
+    ensures { λ r. ⌜ Third (now (img .entry)) (now (work .entry)) (now (work .exit)) at locks left part kept need r ⌝ }
+{
+    match subtype::related(work, slot_of(left - 1), img, at + 1, Mode::Below) {
+        Cmp::Differ => Step::Stop(12, part),
+        Cmp::Next(_) => {
+            let p = copies::skip(img, at + 1);
+            copies::copy_in(img, at + 1, p - (at + 1), work, slot_of(left));
+            Step::Go(kept | need)
+        }
+    }
+}

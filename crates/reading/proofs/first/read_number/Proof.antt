@@ -1,0 +1,25 @@
+-- `reading::first::read_number` meets its contract: the tests on the way say which case of `numAt` holds.
+use Rattle.reading.proofs.first.Agree.{number-told}
+use native.Mathlib.Omega.{arith}
+use Rattle.reading.proofs.first.Laws.{num-short, num-in}
+use borrow.Author.Needs.{needs}
+use Rattle.reading.proofs.first.read_number.Statement.{statement}
+use Rattle.reading.proofs.first.read_number.Tie as tie
+
+returns : tie.Need-returns
+returns c = number-told _ _ (num-short _ _ (omega arith))
+
+sub-if2 : tie.Need-sub-if2
+sub-if2 c = search needs
+
+returns-2 : tie.Need-returns-2
+returns-2 c = number-told _ _ (num-short _ _ (omega arith))
+
+add-t3 : tie.Need-add-t3
+add-t3 c = search needs
+
+returns-3 : tie.Need-returns-3
+returns-3 c = number-told _ _ (num-in _ _ (omega arith))
+
+pub read-number-spec : {M : Type 1} → statement M
+read-number-spec = tie.close (tie.spec returns sub-if2 returns-2 add-t3 returns-3)

@@ -1,0 +1,5 @@
+pub mod Placed
+pub mod Place
+pub mod First
+pub mod Walk
+pub mod Contract

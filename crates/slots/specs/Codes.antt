@@ -1,0 +1,164 @@
+-- What each code of the erased form has, as tables by the code, which the byte functions and the functions of code look up alike: how many
+-- parts, how many bytes of its own before them, which part stands under a binder of it, where evaluation goes, and which codes are a
+-- value's (document 01, "The program image", "The running state"). Past 12 every table has its default.
+use mathlib.Core.Path.{_≡_, sym, subst}
+use mathlib.Core.Bool.{Bool, true, false, _&&_}
+use mathlib.Core.List.{List, [], _∷_}
+use Prim.Native.Nat.{ℕ, zero, suc, _<_, _≤_}
+use native.Mathlib.Omega.{arith}
+use lib.Dec.{T, leb, eqb, leb→le}
+use lib.ListN.{getD, List·getD-eq-default}
+use borrow.Author.Tests.{ne-eqb}
+use Rattle.paper.specs.Base.{choose}
+
+abbrev pub kidTable : List ℕ
+kidTable = 0 ∷ 0 ∷ 0 ∷ 0 ∷ 1 ∷ 2 ∷ 1 ∷ 1 ∷ 2 ∷ 1 ∷ 1 ∷ 2 ∷ 2 ∷ 2 ∷ 2 ∷ 3 ∷ 0 ∷ 0 ∷ 1 ∷ []
+
+abbrev pub fieldTable : List ℕ
+fieldTable = 0 ∷ 0 ∷ 4 ∷ 1 ∷ 0 ∷ 0 ∷ 0 ∷ 0 ∷ 0 ∷ 0 ∷ 0 ∷ 0 ∷ 0 ∷ 0 ∷ 0 ∷ 0 ∷ 1 ∷ 1 ∷ 1 ∷ []
+
+-- "Function, let (in e2) and new lock (in its body) bind a variable."
+abbrev pub bind1Table : List ℕ
+bind1Table = 0 ∷ 0 ∷ 0 ∷ 0 ∷ 1 ∷ 0 ∷ 0 ∷ 0 ∷ 0 ∷ 0 ∷ 1 ∷ 0 ∷ 0 ∷ 0 ∷ 0 ∷ 0 ∷ 0 ∷ 0 ∷ 0 ∷ []
+
+abbrev pub bind2Table : List ℕ
+bind2Table = 0 ∷ 0 ∷ 0 ∷ 0 ∷ 0 ∷ 0 ∷ 0 ∷ 0 ∷ 0 ∷ 0 ∷ 0 ∷ 0 ∷ 1 ∷ 0 ∷ 0 ∷ 0 ∷ 0 ∷ 0 ∷ 0 ∷ []
+
+-- whether evaluation goes into the first part, and into the second once the first is a value
+abbrev pub goes1Table : List Bool
+goes1Table =
+    false ∷ false ∷ false ∷ false ∷ false ∷ true ∷ true ∷ true ∷ true ∷ false ∷ false ∷ true ∷ true ∷ true ∷ true ∷ true
+    ∷ false ∷ false ∷ true ∷ []
+
+abbrev pub goes2Table : List Bool
+goes2Table =
+    false ∷ false ∷ false ∷ false ∷ false ∷ true ∷ false ∷ false ∷ true ∷ false ∷ false ∷ false ∷ false ∷ false ∷ true ∷ false
+    ∷ false ∷ false ∷ false ∷ []
+
+-- "Values: 01, 02, 04, 10, 11."
+abbrev pub valueTable : List Bool
+valueTable =
+    false ∷ true ∷ true ∷ false ∷ true ∷ false ∷ false ∷ false ∷ false ∷ false ∷ false ∷ false ∷ false ∷ false ∷ false ∷ false
+    ∷ true ∷ true ∷ false ∷ []
+
+unfoldable pub isCode : ℕ → Bool
+isCode c = leb 1 c && leb c 18
+
+unfoldable pub kidsOf : ℕ → ℕ
+kidsOf c = getD kidTable c 0
+
+unfoldable pub fieldOf : ℕ → ℕ
+fieldOf c = getD fieldTable c 0
+
+unfoldable pub bind1 : ℕ → ℕ
+bind1 c = getD bind1Table c 0
+
+unfoldable pub bind2 : ℕ → ℕ
+bind2 c = getD bind2Table c 0
+
+unfoldable pub goes1 : ℕ → Bool
+goes1 c = getD goes1Table c false
+
+unfoldable pub goes2 : ℕ → Bool
+goes2 c = getD goes2Table c false
+
+unfoldable pub isValue : ℕ → Bool
+isValue c = getD valueTable c false
+
+-- 1 for an open section
+unfoldable pub openOf : ℕ → ℕ
+openOf c = choose (eqb c 18) (λ _. 1) (λ _. 0)
+
+-- a looked-up number and the most that it can be
+pub record Told (x most r : ℕ) : Type 0 where
+  pub says : r ≡ x
+  pub small : r ≤ most
+
+-- ---- the most that a table has
+
+abbrev all≤ : ℕ → List ℕ → Bool
+all≤ b [] = true
+all≤ b (x ∷ xs) = leb x b && all≤ b xs
+
+and-left : (a b : Bool) → T (a && b) → T a
+and-left true b t = tt
+and-left false b t = t
+
+and-right : (a b : Bool) → T (a && b) → T b
+and-right true b t = t
+and-right false b t = absurd t
+
+entry≤ : (b : ℕ) (xs : List ℕ) → T (all≤ b xs) → (k : ℕ) → getD xs k 0 ≤ b
+entry≤ b [] t k = omega arith
+entry≤ b (x ∷ xs) t zero = leb→le x b (and-left (leb x b) (all≤ b xs) t)
+entry≤ b (x ∷ xs) t (suc k) = entry≤ b xs (and-right (leb x b) (all≤ b xs) t) k
+
+module _ (c : ℕ) where
+  pub kids≤ : kidsOf c ≤ 3
+  unfolding kidsOf
+  kids≤ = entry≤ 3 kidTable tt c
+
+  pub fields≤ : fieldOf c ≤ 4
+  unfolding fieldOf
+  fields≤ = entry≤ 4 fieldTable tt c
+
+  pub bind1≤ : bind1 c ≤ 1
+  unfolding bind1
+  bind1≤ = entry≤ 1 bind1Table tt c
+
+  pub bind2≤ : bind2 c ≤ 1
+  unfolding bind2
+  bind2≤ = entry≤ 1 bind2Table tt c
+
+  pub code-range : isCode c ≡ true → (1 ≤ c) × (c ≤ 18)
+  unfolding isCode
+  code-range e =
+      let t : T (leb 1 c && leb c 18) = subst T (sym e) tt in
+      (leb→le 1 c (and-left (leb 1 c) (leb c 18) t), leb→le c 18 (and-right (leb 1 c) (leb c 18) t))
+
+  pub open-yes : c ≡ 18 → 1 ≡ openOf c
+  unfolding openOf
+  open-yes e = rw e
+
+  pub open-no : (c ≡ 18 → ⊥) → 0 ≡ openOf c
+  unfolding openOf
+  open-no n = rw (ne-eqb c 18 n)
+
+  pub open≤ : openOf c ≤ 1
+  unfolding openOf
+  open≤ = go (eqb c 18)
+    where
+      go : (b : Bool) → choose b (λ _. 1) (λ _. 0) ≤ 1
+      go true = omega arith
+      go false = omega arith
+
+-- ---- past the last code
+
+module _ (c : ℕ) (h : 18 < c) where
+  pub past-kids : kidsOf c ≡ 0
+  unfolding kidsOf
+  past-kids = List·getD-eq-default kidTable 0 h
+
+  pub past-fields : fieldOf c ≡ 0
+  unfolding fieldOf
+  past-fields = List·getD-eq-default fieldTable 0 h
+
+  pub past-bind1 : bind1 c ≡ 0
+  unfolding bind1
+  past-bind1 = List·getD-eq-default bind1Table 0 h
+
+  pub past-bind2 : bind2 c ≡ 0
+  unfolding bind2
+  past-bind2 = List·getD-eq-default bind2Table 0 h
+
+  pub past-goes1 : goes1 c ≡ false
+  unfolding goes1
+  past-goes1 = List·getD-eq-default goes1Table false h
+
+  pub past-goes2 : goes2 c ≡ false
+  unfolding goes2
+  past-goes2 = List·getD-eq-default goes2Table false h
+
+  pub past-value : isValue c ≡ false
+  unfolding isValue
+  past-value = List·getD-eq-default valueTable false h

@@ -1,0 +1,122 @@
+// A new expression, made of an old one's bytes, into a lent buffer: a value put for the outermost variable, and a part exchanged.
+ghost use mathlib.Core.Path.{_≡_};
+ghost use mathlib.Core.List.{_++_};
+ghost use Prim.Native.Nat.{_+_, _≤_, _<_, min};
+ghost use lib.ListN.{length, take};
+ghost use Rattle.slots.specs.Written.{Written};
+ghost use Rattle.slots.specs.Put.{hit, putOf, spliced, Put};
+use crate::codes::byte;
+use crate::codes::fields;
+use crate::stack::Next;
+use crate::stack::after;
+use crate::stack::clear;
+use crate::stack::ended;
+use crate::walk::skip;
+
+fn least(a: usize, b: usize) -> usize
+    ensures { λ r. ⌜ r ≡ min a b ⌝ }
+{
+    if a < b { a } else { b }
+}
+
+// v into dst from `at` on, as far as there is room: the place after it, or one more than dst's length.
+fn fill(v: &[u8], dst: &mut [u8], at: usize) -> usize
+    requires { ⌜ at ≤ length (now dst) ⌝ }
+    ensures { λ r. ⌜ Written (take at (now (dst .entry)) ++ now (v .entry)) (now (dst .entry)) (now (dst .exit)) r ⌝ }
+{
+    let n = least(v.len(), dst.len() - at);
+    let mut i = 0;
+    while i < n {
+        dst[at + i] = v[i];
+        i += 1;
+    }
+    if n < v.len() {
+        return dst.len() + 1;
+    }
+    at + n
+}
+
+// Whether a variable stands at i, and is d.
+fn is_hit(src: &[u8], i: usize, d: usize) -> bool
+    requires { ⌜ i < length (now src) ⌝ }
+    ensures { λ r. ⌜ r ≡ hit (now (src .entry)) i d ⌝ }
+{
+    if src[i] != 3 {
+        return false;
+    }
+    byte(src, i + 1) == d
+}
+
+// v for the outermost variable of the expression that stands first in src, to dst, on a stack as long as src.
+fn pass(src: &[u8], v: &[u8], dst: &mut [u8], stack: &mut [u8]) -> usize
+    requires { ⌜ length (now stack) ≡ length (now src) ⌝ }
+    ensures { λ r. ⌜ Written (putOf (now (src .entry)) (now (v .entry))) (now (dst .entry)) (now (dst .exit)) r ⌝ }
+{
+    if skip(src, 0) == 0 {
+        return 0;
+    }
+    let mut next = Next {
+        done: false,
+        d: 0,
+        sp: 0,
+    };
+    let mut out: usize = 0;
+    let mut i: usize = 0;
+    while i < src.len() {
+        if next.done {
+            return out;
+        }
+        let c = src[i];
+        let d = next.d;
+        let sp = next.sp;
+        if is_hit(src, i, d) {
+            out = fill(v, dst, out);
+            if dst.len() < out {
+                return out;
+            }
+            next = ended(stack, sp, d);
+            i += 2;
+            continue;
+        }
+        let e = i + fields(c) + 1;
+        out = fill(&src[i..e], dst, out);
+        if dst.len() < out {
+            return out;
+        }
+        next = after(stack, sp, d, c);
+        i = e;
+    }
+    out
+}
+
+// The bytes of the expression that stands first in src with v for its outermost variable, to dst as far as there is room: how many, or one
+// more than dst's length; none where no expression stands there or the lent stack is shorter than src. The stack is left with zeros where
+// it was used.
+pub fn put(src: &[u8], v: &[u8], dst: &mut [u8], stack: &mut [u8]) -> usize
+    ensures { λ r. ⌜ Put (now (src .entry)) (now (v .entry)) (now (dst .entry)) (now (dst .exit)) (now (stack .entry)) (now (stack .exit)) r ⌝ }
+{
+    let n = src.len();
+    if stack.len() < n {
+        return 0;
+    }
+    let r = pass(src, v, dst, &mut stack[..n]);
+    clear(&mut stack[..n]);
+    r
+}
+
+// The bytes of src with mid for those from p up to q, to dst as far as there is room: how many, or one more than dst's length.
+pub fn splice(src: &[u8], p: usize, q: usize, mid: &[u8], dst: &mut [u8]) -> usize
+    ensures { λ r. ⌜ Written (spliced (now (src .entry)) p q (now (mid .entry))) (now (dst .entry)) (now (dst .exit)) r ⌝ }
+{
+    let a = least(p, src.len());
+    let b = least(q, src.len());
+    let first = fill(&src[..a], dst, 0);
+    if dst.len() < first {
+        return first;
+    }
+    let second = fill(mid, dst, first);
+    if dst.len() < second {
+        return second;
+    }
+    fill(&src[b..], dst, second)
+}

@@ -1,0 +1,4 @@
+pub mod Put
+pub mod Digits
+pub mod Lines
+pub mod JudgeText

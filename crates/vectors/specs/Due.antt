@@ -1,0 +1,31 @@
+-- What is due after a call. A comparison that answers `Exactly` this can neither pass what is not due nor fail what is.
+use mathlib.Core.Bool.{Bool, true}
+use mathlib.Core.List.{List}
+use mathlib.Core.Path.{_≡_}
+use Prim.Native.Nat.{ℕ, _≤_, _<_}
+use lib.ListN.{length, getD}
+use Rattle.judging.specs.declared.entry.Verdict.{Verdict}
+use Rattle.judging.specs.declared.entry.Verdict.the-variants.{Refused}
+
+pub record Exactly (r : Bool) (P : Type 0) : Type 0 where
+  pub only : r ≡ true → P
+  pub always : P → r ≡ true
+
+abbrev pub Filled : ℕ → List ℕ → Type 0
+Filled b s = (k : ℕ) → k < length s → getD s k 0 ≡ b
+
+-- the first 40,960 bytes are zero, the rest as it was filled
+pub record Cleared (work : List ℕ) : Type 0 where
+  pub long : 40960 ≤ length work
+  pub zero : (k : ℕ) → k < 40960 → getD work k 0 ≡ 0
+  pub rest : (k : ℕ) → 40960 ≤ k → k < length work → getD work k 0 ≡ 165
+
+pub record AsDue (verdict due : Verdict) (types dueTypes work : List ℕ) : Type 0 where
+  pub answer : verdict ≡ due
+  pub types-due : types ≡ dueTypes
+  pub work-due : Cleared work
+
+pub record Untouched (verdict : Verdict) (types work : List ℕ) : Type 0 where
+  pub answer : verdict ≡ Refused 1 0
+  pub types-kept : Filled 165 types
+  pub work-kept : Filled 165 work

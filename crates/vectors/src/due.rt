@@ -1,0 +1,76 @@
+// The comparisons. Each answers true exactly where everything is as due, so that a vector can fail.
+use judging::entry::Verdict;
+ghost use mathlib.Core.Path.{_≡_};
+ghost use Rattle.vectors.specs.Due.{Exactly, Filled, Cleared, AsDue, Untouched};
+
+// What every lent buffer is filled with before a call.
+pub const PATTERN: u8 = 165;
+
+pub fn filled(s: &[u8], b: u8) -> bool
+    ensures { λ r. ⌜ Exactly r (Filled b (now (s .entry))) ⌝ }
+{
+    let mut i = 0;
+    while i < s.len() {
+        if s[i] != b {
+            return false;
+        }
+        i += 1;
+    }
+    true
+}
+
+// The work buffer after every answer but 1.
+pub fn cleared(work: &[u8]) -> bool
+    ensures { λ r. ⌜ Exactly r (Cleared (now (work .entry))) ⌝ }
+{
+    if work.len() < 40960 {
+        return false;
+    }
+    if filled(&work[..40960], 0) {
+        return filled(&work[40960..], PATTERN);
+    }
+    false
+}
+
+pub fn equal(a: Verdict, b: Verdict) -> bool
+    ensures { λ r. ⌜ Exactly r (a ≡ b) ⌝ }
+{
+    match a {
+        Verdict::Accepted(n) => match b {
+            Verdict::Accepted(m) => n == m,
+            Verdict::Refused(_, _) => false,
+        },
+        Verdict::Refused(k, p) => match b {
+            Verdict::Accepted(_) => false,
+            Verdict::Refused(l, q) => {
+                if k == l {
+                    return p == q;
+                }
+                false
+            }
+        },
+    }
+}
+
+pub fn as_due(verdict: Verdict, due: Verdict, types: &[u8], expected: &[u8], work: &[u8]) -> bool
+    ensures { λ r. ⌜ Exactly r (AsDue verdict due (now (types .entry)) (now (expected .entry)) (now (work .entry))) ⌝ }
+{
+    if equal(verdict, due) {
+        if check::same(types, expected) {
+            return cleared(work);
+        }
+    }
+    false
+}
+
+// Answer 1, and both buffers as they were filled.
+pub fn untouched(verdict: Verdict, types: &[u8], work: &[u8]) -> bool
+    ensures { λ r. ⌜ Exactly r (Untouched verdict (now (types .entry)) (now (work .entry))) ⌝ }
+{
+    if equal(verdict, Verdict::Refused(1, 0)) {
+        if filled(types, PATTERN) {
+            return filled(work, PATTERN);
+        }
+    }
+    false
+}
