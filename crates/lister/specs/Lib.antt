@@ -1,0 +1,4 @@
+pub mod Means
+pub mod Passing
+pub mod Stated
+pub mod Listing
