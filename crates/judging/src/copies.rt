@@ -1,8 +1,7 @@
 // The bytes of a type, from place to place; and the clearing of the work buffer.
 ghost use mathlib.Core.Path.{_≡_};
-ghost use mathlib.Core.Logic.{_⊎_};
-ghost use Prim.Native.Nat.{ℕ, _+_, _-_, _≤_, _<_};
-ghost use lib.ListN.{length, getD};
+ghost use Prim.Native.Nat.{_+_, _≤_};
+ghost use lib.ListN.{length};
 ghost use Rattle.judging.specs.Copies.{Movable, Moved, Copied, Some, Ends, Givable, Given};
 ghost use Rattle.paper.specs.Calls.{zeroed};
 
@@ -23,7 +22,7 @@ pub(crate) fn skip(s: &[u8], at: usize) -> usize
     }
 }
 
-// The type at `from`, moved down, or to where the 256 bytes from it do not reach.
+// The type at `from`, byte by byte to `to`: lower, or past the 256 bytes that it may have. Most types are a few bytes.
 pub(crate) fn copy(w: &mut [u8], from: usize, to: usize)
     requires { ⌜ Movable (now w) from to ⌝ }
     ensures { λ _. ⌜ Moved (now (w .entry)) (now (w .exit)) from to ⌝ }
@@ -48,7 +47,7 @@ pub(crate) fn copy_in(s: &[u8], from: usize, n: usize, w: &mut [u8], to: usize)
     }
 }
 
-// The type at `at`, first into another buffer; its length.
+// The type at `at` to the front of another buffer; its length.
 pub(crate) fn give(s: &[u8], at: usize, w: &mut [u8]) -> usize
     requires { ⌜ Givable (now s) at (now w) ⌝ }
     ensures { λ r. ⌜ Given (now (s .entry)) at (now (w .entry)) (now (w .exit)) r ⌝ }
@@ -60,7 +59,7 @@ pub(crate) fn give(s: &[u8], at: usize, w: &mut [u8]) -> usize
     size
 }
 
-// The bytes of a work buffer zero.
+// The 40,960 bytes of a work buffer, zero.
 pub(crate) fn clear(w: &mut [u8])
     requires { ⌜ 40960 ≤ length (now w) ⌝ }
     ensures { λ _. ⌜ now (w .exit) ≡ zeroed (now (w .entry)) ⌝ }

@@ -153,8 +153,8 @@ fn first_cell(
     }
 }
 
-// A function needs nothing itself: its body needs what the set declares. Its type is put together beside the slots, since the body's type
-// stands where it goes.
+// A function needs nothing itself: its body needs what the set declares. Its type is put together, in a buffer of its own, from the argument,
+// the set and the result.
 fn first_lam(
     img: &[u8],
     at: usize,
@@ -188,6 +188,7 @@ fn first_lam(
     Step::Go(0)
 }
 
+// By the code.
 pub(crate) fn after_first(
     img: &[u8],
     at: usize,

@@ -36,7 +36,7 @@ pub(crate) fn only(k: u8) -> u32
     power(k) as u32
 }
 
-// A need without the lock k.
+// A need without the lock k: its bit set, and then turned.
 pub(crate) fn less(m: u32, k: u8) -> u32
     requires { ⌜ k < 32 ⌝ }
     ensures { λ r. ⌜ r ≡ sets.less m (single k) ⌝ }

@@ -146,6 +146,7 @@ fn second_cond(
     }
 }
 
+// By the code.
 pub(crate) fn after_second(
     img: &[u8],
     at: usize,

@@ -1,7 +1,7 @@
 // A type under new locks, and out from under one: every name and every set, in place.
 ghost use mathlib.Core.Path.{_≡_};
-ghost use Prim.Native.Nat.{ℕ, _+_, _-_, _*_, _/_, _%_, _^_, _≤_, _<_};
-ghost use lib.ListN.{length, getD, set};
+ghost use Prim.Native.Nat.{_+_, _*_, _^_, _≤_, _<_};
+ghost use lib.ListN.{length};
 ghost use Rattle.paper.specs.Base.{word32};
 ghost use Rattle.judging.specs.Holds.{put};
 ghost use Rattle.judging.specs.Shift.{Raisable, Raises, Lowerable, Lowers, LowerSet, LowerName};

@@ -211,3 +211,18 @@ module _ (s t w : List ℕ) where
 
     pub judges : (r : Verdict) (t′ w′ w″ : List ℕ) → Comes s t w r t′ w′ → w″ ≡ zeroed w′ → Judges s t w r t′ w″
     judges r t′ w′ w″ C z = judges-by r t′ w″ (verdict s) (C .answers) (z ∙ zeroed-same w′ (C .kept)) call-long
+
+-- what a caller knows whose buffers are long enough: the verdict, and a work buffer that is zero
+pub judged-long : {s t w t′ w′ : List ℕ} {r : Verdict} → Judges s t w r t′ w′ → 256 ≤ length t → 40960 ≤ length w
+    → (said r ≡ (verdict s ▷ λ a. ok (tySize a))) × (w′ ≡ zeroed w)
+judged-long {s} {t} {w} J a b =
+    let q = call-long s t w a b in
+    (J .says ∙ ap (λ (c : JudgeCall). c .says) q ∙ says-of (verdict s), J .work ∙ ap (λ (c : JudgeCall). c .work) q ∙ work-of (verdict s))
+  where
+    says-of : (o : Out Ty) → after s t w o .says ≡ (o ▷ λ a. ok (tySize a))
+    says-of (ok a) = refl
+    says-of (refused n p) = refl
+
+    work-of : (o : Out Ty) → after s t w o .work ≡ zeroed w
+    work-of (ok a) = refl
+    work-of (refused n p) = refl

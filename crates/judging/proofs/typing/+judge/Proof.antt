@@ -1,127 +1,18 @@
 -- `judging::typing::judge` meets its contract.
-use lib.ListN.{getD}
-use Rattle.reading.specs.Walk.{binds1, locks1, binds2}
-use Rattle.judging.specs.Contract.{Finds}
-use Rattle.judging.proofs.typing.One.{less-left, inside, some-left, Started, ready-1, refused-1, some-1, stop-1, After1, after-1, done-1, ready-bind}
-use Rattle.judging.proofs.typing.Two.{Due2, ready-2, frame-5, refused-2, some-2, frame-6, stop-2, After2, after-2, done-2}
-use Rattle.judging.proofs.typing.Three.{Due3, ready-3, frame-7, refused-3, some-3, frame-8, stop-3, done-3}
+mod Places
+use Rattle.judging.proofs.typing.+judge.Proof.Places.{μ-judge, At, R, begun, found-1, one, due-2, found-2, two, due-3}
+use Rattle.judging.proofs.typing.One.{less-left, inside, some-left, ready-1, refused-1, some-1, stop-1, done-1, ready-bind}
+use Rattle.judging.proofs.typing.Two.{ready-2, frame-5, refused-2, some-2, frame-6, stop-2, done-2}
+use Rattle.judging.proofs.typing.Three.{ready-3, frame-7, refused-3, some-3, frame-8, stop-3, done-3}
 use native.Mathlib.Nat.{pos-of-ne-zero}
-use Prim.Native.Nat.{_<_, ℕ, _-_, _+_}
+use Prim.Native.Nat.{ℕ}
 use borrow.Author.Needs.{needs}
 use native.Mathlib.Omega.{arith}
 use mathlib.Core.Path.{sym, _∙_}
-use borrow.Fn.Kinds.{In}
-use borrow.Fn.PlainCycle.{Measures, is, falls, and}
 use Rattle.judging.proofs.typing.judge.Reads as judge
-use Rattle.judging.proofs.typing.judge.Kinds as judge-kinds
 use Rattle.judging.proofs.typing.+judge.Lts-judge as judge-lts
-use Rattle.reading.proofs.first.first_binds.Reads as first-binds-reads
-use Rattle.reading.proofs.first.first_locks.Reads as first-locks-reads
-use Rattle.reading.proofs.first.parts_of.Reads as parts-of-reads
-use Rattle.reading.proofs.first.second_binds.Reads as second-binds-reads
-use Rattle.judging.proofs.first.after_first.Reads as after-first-reads
-use Rattle.judging.proofs.second.after_second.Reads as after-second-reads
-use Rattle.judging.proofs.second.after_third.Reads as after-third-reads
-use Rattle.judging.proofs.binding.bind.Reads as bind-reads
-use Rattle.judging.proofs.binding.enter.Reads as enter-reads
-use Rattle.judging.proofs.binding.first_part.Reads as first-part-reads
-use Rattle.judging.proofs.binding.leaf.Reads as leaf-reads
 use Rattle.judging.proofs.typing.+judge.{statement}
 use Rattle.judging.proofs.typing.+judge.Tie.{close}
-
-abbrev μ-judge : Measures 2 judge-kinds.ps ℕ
-μ-judge κs a = a .1 .1 .1 .1 .1 .0
-
-abbrev At : ℕ → In 2 judge-kinds.ps
-At t = and 2 judge-kinds.ps (is 2 judge-kinds.ps μ-judge t) judge.Pre
-
-abbrev Below : ℕ → In 2 judge-kinds.ps
-Below t = and 2 judge-kinds.ps (falls 2 judge-kinds.ps _<_ μ-judge t) judge.Pre
-
-abbrev R : ℕ → judge-lts.Claims
-R t = (leaf-reads.Asked, leaf-reads.Learnt, first-part-reads.Asked, first-part-reads.Learnt, enter-reads.Asked, enter-reads.Learnt, first-binds-reads.Asked, first-binds-reads.Learnt, first-locks-reads.Asked, first-locks-reads.Learnt, Below t, judge.Post, after-first-reads.Asked, after-first-reads.Learnt, parts-of-reads.Asked, parts-of-reads.Learnt, bind-reads.Asked, bind-reads.Learnt, second-binds-reads.Asked, second-binds-reads.Learnt, after-second-reads.Asked, after-second-reads.Learnt, after-third-reads.Asked, after-third-reads.Learnt)
-
--- the first part's call is due
-abbrev begun-start : (t : ℕ) → judge-lts.After-enter (R t) (At t) judge.Post → judge-lts.Start (R t) (At t) judge.Post
-begun-start t c = c .before .before .before .before .before .before .before
-
-begun : (t : ℕ) (c : judge-lts.After-enter (R t) (At t) judge.Post) → Started (begun-start t c .args .img .now) (begun-start t c .args .work .now) (c .enter .last .1 .1 .0) (begun-start t c .args .at) (begun-start t c .args .vars) (begun-start t c .args .locks) (begun-start t c .args .left) (c .before .before .first-part .result)
-begun t c =
-    let at-enter = c in
-    let at-first-part = c .before .before in
-    let at-if1 = c .before .before .before in
-    let at-start = c .before .before .before .before .before .before .before in
-    record { ready = at-start .pre .1; big = at-if1 .if1 .left; starts = at-first-part .first-part .ensures; entered = at-enter .enter .ensures }
-
--- what the first part's call found
-abbrev found-1-start : (t : ℕ) → judge-lts.After-judge (R t) (At t) judge.Post → judge-lts.Start (R t) (At t) judge.Post
-found-1-start t c = c .before .before .before .before .before .before .before .before .before .before .before .before .before
-
-found-1 : (t : ℕ) (c : judge-lts.After-judge (R t) (At t) judge.Post) → Finds (found-1-start t c .args .img .now) (c .before .before .before .before .before .before .enter .last .1 .1 .0) (c .judge .last .1 .1 .0) (c .before .before .before .before .before .before .before .before .first-part .result) (found-1-start t c .args .vars + binds1 (getD (found-1-start t c .args .img .now) (found-1-start t c .args .at) 0)) (found-1-start t c .args .locks + locks1 (getD (found-1-start t c .args .img .now) (found-1-start t c .args .at) 0)) (found-1-start t c .args .left - 1) (c .judge .result)
-found-1 t c =
-    let at-judge = c in
-    let at-first-locks = c .before in
-    let at-first-binds = c .before .before in
-    rw (at-first-binds .first-binds .ensures .said, at-first-locks .first-locks .ensures .said) at (at-judge .judge .ensures)
-
--- the step after the first part went on
-abbrev one-start : (t : ℕ) → judge-lts.After-kept1 (R t) (At t) judge.Post → judge-lts.Start (R t) (At t) judge.Post
-one-start t c = c .before .before .before .before .before .before .before .before .before .before .before .before .before .before .before .before .before .before .before .before .before .before .before .before
-
-one : (t : ℕ) (c : judge-lts.After-kept1 (R t) (At t) judge.Post) → After1 (one-start t c .args .img .now) (one-start t c .args .work .now) (c .before .before .before .before .after-first .last .1 .1 .1 .0) (one-start t c .args .at) (one-start t c .args .vars) (one-start t c .args .locks) (one-start t c .args .left) (c .before .before .before .before .before .before .before .p2 .given .0 .0) (c .kept1 .given .0 .0)
-one t c =
-    let at-kept1 = c in
-    let at-after-first = c .before .before .before .before in
-    let at-p2 = c .before .before .before .before .before .before .before in
-    let at-judge = c .before .before .before .before .before .before .before .before .before .before .before in
-    let at-enter = c .before .before .before .before .before .before .before .before .before .before .before .before .before .before .before .before .before in
-    after-1 (begun t at-enter) (found-1 t at-judge) (at-p2 .p2 .given .1) (at-after-first .after-first .ensures) (at-kept1 .kept1 .given .1)
-
--- the second part's call is due
-abbrev due-2-start : (t : ℕ) → judge-lts.After-bind (R t) (At t) judge.Post → judge-lts.Start (R t) (At t) judge.Post
-due-2-start t c = c .before .before .before .before .before .before .before .before .before .before .before .before .before .before .before .before .before .before .before .before .before .before .before .before .before .before .before .before .before
-
-due-2 : (t : ℕ) (c : judge-lts.After-bind (R t) (At t) judge.Post) → Due2 (due-2-start t c .args .img .now) (due-2-start t c .args .work .now) (c .before .before .before .before .before .before .before .before .before .after-first .last .1 .1 .1 .0) (c .bind .last .1 .1 .0) (due-2-start t c .args .at) (due-2-start t c .args .vars) (due-2-start t c .args .locks) (due-2-start t c .args .left) (c .before .before .before .before .before .before .before .before .before .before .before .before .p2 .given .0 .0) (c .before .before .before .before .before .kept1 .given .0 .0)
-due-2 t c =
-    let at-bind = c in
-    let at-if2 = c .before .before in
-    let at-parts-of = c .before .before .before in
-    let at-kept1 = c .before .before .before .before .before in
-    record { after = one t at-kept1; more = λ e. at-if2 .if2 .left (at-parts-of .parts-of .ensures .said ∙ e); bound = at-bind .bind .ensures }
-
--- what the second part's call found
-abbrev found-2-start : (t : ℕ) → judge-lts.After-judge2 (R t) (At t) judge.Post → judge-lts.Start (R t) (At t) judge.Post
-found-2-start t c = c .before .before .before .before .before .before .before .before .before .before .before .before .before .before .before .before .before .before .before .before .before .before .before .before .before .before .before .before .before .before .before .before .before .before
-
-found-2 : (t : ℕ) (c : judge-lts.After-judge2 (R t) (At t) judge.Post) → Finds (found-2-start t c .args .img .now) (c .before .before .before .before .before .bind .last .1 .1 .0) (c .judge2 .last .1 .1 .0) (c .before .before .before .before .before .before .before .before .before .before .before .before .before .before .before .before .before .p2 .given .0 .0) (found-2-start t c .args .vars + binds2 (getD (found-2-start t c .args .img .now) (found-2-start t c .args .at) 0)) (found-2-start t c .args .locks) (found-2-start t c .args .left - 1) (c .judge2 .result)
-found-2 t c =
-    let at-judge2 = c in
-    let at-second-binds = c .before in
-    rw (at-second-binds .second-binds .ensures .said) at (at-judge2 .judge2 .ensures)
-
--- the step after the second part went on
-abbrev two-start : (t : ℕ) → judge-lts.After-kept2 (R t) (At t) judge.Post → judge-lts.Start (R t) (At t) judge.Post
-two-start t c = c .before .before .before .before .before .before .before .before .before .before .before .before .before .before .before .before .before .before .before .before .before .before .before .before .before .before .before .before .before .before .before .before .before .before .before .before .before .before .before .before .before .before .before .before .before
-
-two : (t : ℕ) (c : judge-lts.After-kept2 (R t) (At t) judge.Post) → After2 (two-start t c .args .img .now) (two-start t c .args .work .now) (c .before .before .before .before .after-second .last .1 .1 .1 .0) (two-start t c .args .at) (two-start t c .args .vars) (two-start t c .args .locks) (two-start t c .args .left) (c .before .before .before .before .before .before .before .p3 .given .0 .0) (c .kept2 .given .0 .0)
-two t c =
-    let at-kept2 = c in
-    let at-after-second = c .before .before .before .before in
-    let at-p3 = c .before .before .before .before .before .before .before in
-    let at-judge2 = c .before .before .before .before .before .before .before .before .before .before .before in
-    let at-bind = c .before .before .before .before .before .before .before .before .before .before .before .before .before .before .before .before in
-    after-2 (due-2 t at-bind) (found-2 t at-judge2) (at-p3 .p3 .given .1) (at-after-second .after-second .ensures) (at-kept2 .kept2 .given .1)
-
--- the third part's call is due
-abbrev due-3-start : (t : ℕ) → judge-lts.Else3 (R t) (At t) judge.Post → judge-lts.Start (R t) (At t) judge.Post
-due-3-start t c = c .before .before .before .before .before .before .before .before .before .before .before .before .before .before .before .before .before .before .before .before .before .before .before .before .before .before .before .before .before .before .before .before .before .before .before .before .before .before .before .before .before .before .before .before .before .before .before
-
-due-3 : (t : ℕ) (c : judge-lts.Else3 (R t) (At t) judge.Post) → Due3 (due-3-start t c .args .img .now) (due-3-start t c .args .work .now) (c .before .before .before .before .before .before .after-second .last .1 .1 .1 .0) (due-3-start t c .args .at) (due-3-start t c .args .vars) (due-3-start t c .args .locks) (due-3-start t c .args .left) (c .before .before .before .before .before .before .before .before .before .p3 .given .0 .0) (c .before .before .kept2 .given .0 .0)
-due-3 t c =
-    let at-if3 = c in
-    let at-kept2 = c .before .before in
-    let at-parts-of = c .before .before .before .before .before .before .before .before .before .before .before .before .before .before .before .before .before .before .before .before .before in
-    record { after = two t at-kept2; more = λ e. at-if3 .if3 .left (at-parts-of .parts-of .ensures .said ∙ e) }
 
 shared-slice-read-code : (t : ℕ) → judge-lts.Need-shared-slice-read-code (R t) (At t) judge.Post
 shared-slice-read-code t c =
