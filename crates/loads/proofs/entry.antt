@@ -1,0 +1,4 @@
+pub mod First
+pub mod Laws
+pub mod Judged
+pub mod Unique

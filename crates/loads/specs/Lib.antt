@@ -1,0 +1,5 @@
+pub mod Split
+pub mod Steps
+pub mod Walk
+pub mod Contract
+pub mod Loading
