@@ -25,6 +25,10 @@ pub record AsDue (verdict due : Verdict) (types dueTypes work : List ℕ) : Type
   pub types-due : types ≡ dueTypes
   pub work-due : Cleared work
 
+pub record LoadAsDue (verdict due : Verdict) (kept : List ℕ) : Type 0 where
+  pub answer : verdict ≡ due
+  pub state-kept : Filled 165 kept
+
 pub record Untouched (verdict : Verdict) (types work : List ℕ) : Type 0 where
   pub answer : verdict ≡ Refused 1 0
   pub types-kept : Filled 165 types

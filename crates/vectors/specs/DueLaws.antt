@@ -10,7 +10,7 @@ use lib.ListN.{length, getD, take, drop, length-take, length-drop}
 use lib.Seq.{take-all, length-take-le, getD-take, getD-drop}
 use Rattle.judging.specs.declared.entry.Verdict.{Verdict}
 use Rattle.judging.specs.declared.entry.Verdict.the-variants.{Accepted, Refused}
-use Rattle.vectors.specs.Due.{Exactly, Filled, Cleared, AsDue, Untouched}
+use Rattle.vectors.specs.Due.{Exactly, Filled, Cleared, AsDue, LoadAsDue, Untouched}
 
 pub not-so : {P : Type 0} → (P → ⊥) → Exactly false P
 not-so k = record { only = λ h. absurd (let z : _≡_ {A = ℕ} 0 1 = cc in omega arith); always = λ p. absurd (k p) }
@@ -70,6 +70,9 @@ module _ (work : List ℕ) (long : 40960 ≤ length work) where
 pub due-rest : (v d : Verdict) (t e w : List ℕ) {r : Bool} → v ≡ d → t ≡ e → Exactly r (Cleared w) → Exactly r (AsDue v d t e w)
 due-rest v d t e w a b x =
     record { only = λ h. record { answer = a; types-due = b; work-due = x .only h }; always = λ q. x .always (q .work-due) }
+
+pub load-rest : (v d : Verdict) (s : List ℕ) {r : Bool} → v ≡ d → Exactly r (Filled 165 s) → Exactly r (LoadAsDue v d s)
+load-rest v d s a x = record { only = λ h. record { answer = a; state-kept = x .only h }; always = λ q. x .always (q .state-kept) }
 
 pub untouched-rest : (v : Verdict) (t w : List ℕ) {r : Bool} → v ≡ Refused 1 0 → Filled 165 t → Exactly r (Filled 165 w)
     → Exactly r (Untouched v t w)

@@ -1,10 +1,18 @@
 // The comparisons. Each answers true exactly where everything is as due, so that a vector can fail.
 use judging::entry::Verdict;
 ghost use mathlib.Core.Path.{_≡_};
-ghost use Rattle.vectors.specs.Due.{Exactly, Filled, Cleared, AsDue, Untouched};
+ghost use Rattle.vectors.specs.Due.{Exactly, Filled, Cleared, AsDue, LoadAsDue, Untouched};
 
 // What every lent buffer is filled with before a call.
 pub const PATTERN: u8 = 165;
+
+// The image of a line, in the buffer that it was read into.
+pub fn first(s: &[u8], n: usize) -> &[u8] {
+    if n < s.len() {
+        return &s[0..n];
+    }
+    s
+}
 
 pub fn filled(s: &[u8], b: u8) -> bool
     ensures { λ r. ⌜ Exactly r (Filled b (now (s .entry))) ⌝ }
@@ -71,6 +79,16 @@ pub fn untouched(verdict: Verdict, types: &[u8], work: &[u8]) -> bool
         if filled(types, PATTERN) {
             return filled(work, PATTERN);
         }
+    }
+    false
+}
+
+// A load's answer, and the bytes that it may not touch.
+pub fn load_as_due(verdict: Verdict, due: Verdict, kept: &[u8]) -> bool
+    ensures { λ r. ⌜ Exactly r (LoadAsDue verdict due (now (kept .entry))) ⌝ }
+{
+    if equal(verdict, due) {
+        return filled(kept, PATTERN);
     }
     false
 }

@@ -65,13 +65,6 @@ fn read_line(line: &[u8], image: &mut [u8], types: &mut [u8]) -> Said {
     }
 }
 
-fn first(s: &[u8], n: usize) -> &[u8] {
-    if n < s.len() {
-        return &s[0..n];
-    }
-    s
-}
-
 // Lends more than the judge asks for, so that what it may not touch is seen.
 pub fn judged(line: &[u8]) -> Outcome {
     let mut image = [0u8; 5000];
@@ -81,7 +74,7 @@ pub fn judged(line: &[u8]) -> Outcome {
     };
     let mut types = [PATTERN; 300];
     let mut work = [PATTERN; 41000];
-    let verdict = judge(first(&image, n), &mut types, &mut work);
+    let verdict = judge(due::first(&image, n), &mut types, &mut work);
     outcome_of(due::as_due(verdict, due, &types, &due_types, &work))
 }
 
@@ -92,7 +85,7 @@ fn on_short(line: &[u8], types: &mut [u8], work: &mut [u8]) -> Outcome {
     let Said::Due(n, _) = read_line(line, &mut image, &mut due_types) else {
         return Outcome::Unreadable;
     };
-    let verdict = judge(first(&image, n), types, work);
+    let verdict = judge(due::first(&image, n), types, work);
     outcome_of(due::untouched(verdict, types, work))
 }
 

@@ -3,6 +3,7 @@
 // that is run, and at the end how many of each kind were run, failed and were left out.
 mod due; // due.rt: the comparisons
 mod judge_lines; // judge_lines.rt: the lines of the judge
+mod load_lines; // load_lines.rt: the lines of the two loads
 mod reports; // reports.rt: what is printed, and the counts
 
 use libc::STDIN_FILENO;
@@ -33,6 +34,8 @@ fn kind_of(line: &[u8]) -> usize {
 fn run(kind: usize, line: &[u8]) -> Outcome {
     match kind {
         0 => judge_lines::judged(line),
+        1 => load_lines::raw(line),
+        2 => load_lines::judged(line),
         5 => Outcome::Unreadable,
         _ => Outcome::LeftOut,
     }
