@@ -5,15 +5,15 @@ use mathlib.Core.Bool.{Bool, true, false, _&&_, _||_}
 use mathlib.Core.List.{List, [], _∷_, _++_, append-nil}
 use mathlib.Core.Option.{none}
 use Prim.Native.Nat.{ℕ, _+_}
-use lib.Dec.{eqb}
+use lib.Dec.{eqb, ltb}
 use lib.ListN.{length, getD, drop}
 use lib.Seq.{getD-drop}
 use Rattle.paper.specs.Base.{choose}
 use Rattle.paper.specs.Terms.{Term, termBytes, value, asCell}
-use Rattle.paper.specs.Evaluation.{touches, sections}
+use Rattle.paper.specs.Evaluation.{touches, sections, plain, placed}
 use Rattle.paper.specs.States.{Card, State}
 use Rattle.paper.specs.Steps.{inPlace, move}
-use Rattle.laws.specs.Tests.{join}
+use Rattle.laws.specs.Tests.{join, split, split₃}
 use Rattle.slots.specs.Codes.{fieldOf, goes1, goes2}
 use Rattle.slots.specs.Way.{onward, aimAt}
 use Rattle.slots.specs.Sections.{openAt}
@@ -60,14 +60,14 @@ module _ (s : List ℕ) (p : ℕ) (t a : Term) (q pre post : List ℕ) (frame : 
   first-part : goes2 (first t) ≡ false → ready t ≡ value a
       → ((card : Card) (S : State) → value a ≡ false → move card S t ≡ inPlace frame (move card S a))
       → sections t ≡ openAt s p ++ sections a → (value a ≡ true → touches t ≡ aimAt s p) → (value a ≡ false → touches t ≡ touches a)
-      → Next s p t
-  first-part g2 y m o c d = go (value a) refl
+      → ((nc nl : ℕ) → placed nc nl t ≡ true → placed nc nl a ≡ true) → Next s p t
+  first-part g2 y m o c d k = go (value a) refl
     where
       go : (b : Bool) → value a ≡ b → Next s p t
       go true v =
           stay s p t a q pre post frame h whole framed width g1 v g2 (y ∙ v)
           (o ∙ ap (λ (l : List ℕ). openAt s p ++ l) (value-rests a v .1) ∙ append-nil (openAt s p)) (c v)
-      go false v = enter s p t a q pre post frame h whole framed width g1 v (λ card S. m card S v) o (d v)
+      go false v = enter s p t a q pre post frame h whole framed width g1 v (λ card S. m card S v) o (d v) k
 
 -- and then into the second
 module _ (s : List ℕ) (p : ℕ) (t a b : Term) (q : List ℕ) (c : ℕ) (f g : Term → Term) (h : drop p s ≡ termBytes t ++ q)
@@ -79,8 +79,10 @@ module _ (s : List ℕ) (p : ℕ) (t a b : Term) (q : List ℕ) (c : ℕ) (f g :
       → ((card : Card) (S : State) → value a ≡ true → value b ≡ false → move card S t ≡ inPlace g (move card S b))
       → sections t ≡ choose (value a) (λ _. sections b) (λ _. sections a)
       → (value a ≡ false → touches t ≡ touches a) → (value a ≡ true → value b ≡ false → touches t ≡ touches b)
-      → (value a ≡ true → value b ≡ true → touches t ≡ aimAt s p) → Next s p t
-  second-part w g1 g2 n y m m₂ o d d₂ d₃ = go (value a) (value b) refl refl
+      → (value a ≡ true → value b ≡ true → touches t ≡ aimAt s p)
+      → ((nc nl : ℕ) → placed nc nl t ≡ choose (value a) (λ _. plain nc nl 0 a && placed nc nl b) (λ _. placed nc nl a && plain nc nl 0 b))
+      → Next s p t
+  second-part w g1 g2 n y m m₂ o d d₂ d₃ k = go (value a) (value b) refl refl
     where
       go : (x z : Bool) → value a ≡ x → value b ≡ z → Next s p t
       go true true v u =
@@ -91,9 +93,11 @@ module _ (s : List ℕ) (p : ℕ) (t a b : Term) (q : List ℕ) (c : ℕ) (f g :
           enter2 s p t a q (c ∷ []) (termBytes b) f h whole framed w g1 v g2 b (whole ∙ alone (c ∷ termBytes a) (termBytes b)) g
           (λ r. again r ∙ alone (c ∷ termBytes a) (termBytes r)) u (λ card S. m₂ card S v u)
           (o ∙ to-true (value a) _ _ v ∙ no-section s p t q h n (sections b)) (d₂ v u)
+          (λ nc nl w. split (plain nc nl 0 a) (placed nc nl b) (sym (k nc nl ∙ to-true (value a) _ _ v) ∙ w) .1)
       go false z v u =
           enter s p t a q (c ∷ []) (termBytes b) f h whole framed w g1 v (λ card S. m card S v)
           (o ∙ to-false (value a) _ _ v ∙ no-section s p t q h n (sections a)) (d v)
+          (λ nc nl w. split (placed nc nl a) (plain nc nl 0 b) (sym (k nc nl ∙ to-false (value a) _ _ v) ∙ w) .0)
 
 -- the lock of the open section at p
 an-open : (s : List ℕ) (p l : ℕ) (e : Term) (q : List ℕ) → drop p s ≡ termBytes (Term.inside l e) ++ q → openAt s p ≡ l ∷ []
@@ -105,7 +109,7 @@ an-open s p l e q h =
 -- ---- every construct
 
 pub next : (t : Term) (s : List ℕ) (p : ℕ) (q : List ℕ) → drop p s ≡ termBytes t ++ q → Next s p t
-unfolding termBytes first fieldOf goes1 goes2 move sections touches ready
+unfolding termBytes first fieldOf goes1 goes2 move sections touches ready placed
 next Term.unit s p q h = at-rest s p Term.unit q h refl refl refl refl refl refl refl
 next (Term.num k) s p q h = at-rest s p (Term.num k) q h refl refl refl refl refl refl refl
 next (Term.var k) s p q h = at-rest s p (Term.var k) q h refl refl refl refl refl refl refl
@@ -119,46 +123,56 @@ next (Term.cell e) s p q h =
     refl refl
     (λ card S. to-false (value e) _ _) (no-section s p (Term.cell e) q h refl (sections e)) (rests s p (Term.cell e) q h refl refl e)
     (λ n. refl)
+    (λ nc nl w. w)
 next (Term.read e) s p q h =
     first-part s p (Term.read e) e q (7 ∷ []) [] Term.read h (alone (7 ∷ []) (termBytes e)) (λ r. alone (7 ∷ []) (termBytes r)) refl refl
     refl refl
     (λ card S. to-false (value e) _ _) (no-section s p (Term.read e) q h refl (sections e))
     (λ v. to-true (value e) _ _ v ∙ touched s p (Term.read e) q h refl 7 e [] (alone (7 ∷ []) (termBytes e))) (to-false (value e) _ _)
+    (λ nc nl w. w)
 next (Term.sync a b) s p q h =
     first-part s p (Term.sync a b) a q (11 ∷ []) (termBytes b) (λ x. Term.sync x b) h refl (λ r. refl) refl refl refl refl
     (λ card S. to-false (value a) _ _) (no-section s p (Term.sync a b) q h refl (sections a)) (rests s p (Term.sync a b) q h refl refl a)
     (λ n. refl)
+    (λ nc nl w. split (placed nc nl a) (plain nc nl 0 b) w .0)
 next (Term.bind a b) s p q h =
     first-part s p (Term.bind a b) a q (12 ∷ []) (termBytes b) (λ x. Term.bind x b) h refl (λ r. refl) refl refl refl refl
     (λ card S. to-false (value a) _ _) (no-section s p (Term.bind a b) q h refl (sections a)) (rests s p (Term.bind a b) q h refl refl a)
     (λ n. refl)
+    (λ nc nl w. split (placed nc nl a) (plain nc nl 1 b) w .0)
 next (Term.seq a b) s p q h =
     first-part s p (Term.seq a b) a q (13 ∷ []) (termBytes b) (λ x. Term.seq x b) h refl (λ r. refl) refl refl refl refl
     (λ card S. to-false (value a) _ _) (no-section s p (Term.seq a b) q h refl (sections a)) (rests s p (Term.seq a b) q h refl refl a)
     (λ n. refl)
+    (λ nc nl w. split (placed nc nl a) (plain nc nl 0 b) w .0)
 next (Term.cond a b e) s p q h =
     first-part s p (Term.cond a b e) a q (15 ∷ []) (termBytes b ++ termBytes e) (λ x. Term.cond x b e) h refl (λ r. refl) refl refl refl
     refl
     (λ card S. to-false (value a) _ _) (no-section s p (Term.cond a b e) q h refl (sections a))
     (rests s p (Term.cond a b e) q h refl refl a)
     (λ n. refl)
+    (λ nc nl w. split₃ (placed nc nl a) (plain nc nl 0 b) (plain nc nl 0 e) w .0)
 next (Term.inside l e) s p q h =
     first-part s p (Term.inside l e) e q (18 ∷ l ∷ []) [] (Term.inside l) h (alone (18 ∷ l ∷ []) (termBytes e))
     (λ r. alone (18 ∷ l ∷ []) (termBytes r))
     refl refl refl refl (λ card S. to-false (value e) _ _) (ap (λ (y : List ℕ). y ++ sections e) (sym (an-open s p l e q h)))
     (rests s p (Term.inside l e) q h refl refl e) (λ n. refl)
+    (λ nc nl w. split (ltb l nl) (placed nc nl e) w .1)
 next (Term.app a b) s p q h =
     second-part s p (Term.app a b) a b q 5 (λ x. Term.app x b) (Term.app a) h refl (λ r. refl) (λ r. refl) refl refl refl refl refl
     (λ card S. to-false (value a) _ _) (λ card S v u. to-true (value a) _ _ v ∙ to-false (value b) _ _ u) refl
     (to-false (value a) _ _) (λ v u. to-true (value a) _ _ v)
     (λ v u. to-true (value a) _ _ v ∙ rests s p (Term.app a b) q h refl refl b u)
+    (λ nc nl. refl)
 next (Term.add a b) s p q h =
     second-part s p (Term.add a b) a b q 14 (λ x. Term.add x b) (Term.add a) h refl (λ r. refl) (λ r. refl) refl refl refl refl refl
     (λ card S. to-false (value a) _ _) (λ card S v u. to-true (value a) _ _ v ∙ to-false (value b) _ _ u) refl
     (to-false (value a) _ _) (λ v u. to-true (value a) _ _ v)
     (λ v u. to-true (value a) _ _ v ∙ rests s p (Term.add a b) q h refl refl b u)
+    (λ nc nl. refl)
 next (Term.write a b) s p q h =
     second-part s p (Term.write a b) a b q 8 (λ x. Term.write x b) (Term.write a) h refl (λ r. refl) (λ r. refl) refl refl refl refl refl
     (λ card S. to-false (value a) _ _) (λ card S v u. to-true (value a) _ _ v ∙ to-false (value b) _ _ u) refl
     (to-false (value a) _ _) (λ v u. to-true (value a) _ _ v ∙ to-false (value b) _ _ u)
     (λ v u. to-true (value a) _ _ v ∙ to-true (value b) _ _ u ∙ touched s p (Term.write a b) q h refl 8 a (termBytes b) refl)
+    (λ nc nl. refl)

@@ -12,7 +12,7 @@ use lib.ListN.{length, getD, drop, length-append}
 use borrow.Author.Tests.{lt-ltb}
 use Rattle.paper.specs.Base.{choose}
 use Rattle.paper.specs.Terms.{Term, termBytes, value}
-use Rattle.paper.specs.Evaluation.{touches, sections}
+use Rattle.paper.specs.Evaluation.{touches, sections, placed}
 use Rattle.paper.specs.States.{Card, State}
 use Rattle.paper.specs.Steps.{inPlace, move}
 use Rattle.slots.specs.Codes.{fieldOf, goes1, goes2, isValue}
@@ -89,6 +89,7 @@ pub record Into (s : List ℕ) (p : ℕ) (t : Term) : Type 0 where
   pub moves : (card : Card) (S : State) → move card S t ≡ inPlace frame (move card S part)
   pub opens : sections t ≡ openAt s p ++ sections part
   pub aims : touches t ≡ touches part
+  pub keeps : (nc nl : ℕ) → placed nc nl t ≡ true → placed nc nl part ≡ true
 
 pub data Next (s : List ℕ) (p : ℕ) (t : Term) : Type 0 where
   stays : onward s p ≡ p → ready t ≡ true → sections t ≡ openAt s p → touches t ≡ aimAt s p → Next s p t
@@ -122,9 +123,10 @@ module _ (s : List ℕ) (p : ℕ) (t a : Term) (q pre post : List ℕ) (frame : 
   part = ap (λ (k : ℕ). drop k s) there ∙ part-at s p t q e pre a post whole
 
   pub enter : value a ≡ false → ((card : Card) (S : State) → move card S t ≡ inPlace frame (move card S a))
-      → sections t ≡ openAt s p ++ sections a → touches t ≡ touches a → Next s p t
+      → sections t ≡ openAt s p ++ sections a → touches t ≡ touches a
+      → ((nc nl : ℕ) → placed nc nl t ≡ true → placed nc nl a ≡ true) → Next s p t
   unfolding onward f
-  enter n m o b =
+  enter n m o b k =
       enters (record {
         part = a;
         pre = pre;
@@ -136,6 +138,7 @@ module _ (s : List ℕ) (p : ℕ) (t a : Term) (q pre post : List ℕ) (frame : 
         moves = m;
         opens = o;
         aims = b;
+        keeps = k;
       })
       (omega (arith, width))
       (inward-first s p f (ap goes1 (byte-at s p t q e) ∙ g1) (stands s f a (post ++ q) part) (value-at s f a (post ++ q) part ∙ n) ∙ there)
@@ -171,9 +174,10 @@ module _ (s : List ℕ) (p : ℕ) (t a : Term) (q pre post : List ℕ) (frame : 
     pub enter2 : (frame2 : Term → Term) → ((r : Term) → termBytes (frame2 r) ≡ (pre ++ termBytes a) ++ (termBytes r ++ []))
         → value z ≡ false
         → ((card : Card) (S : State) → move card S t ≡ inPlace frame2 (move card S z))
-        → sections t ≡ openAt s p ++ sections z → touches t ≡ touches z → Next s p t
+        → sections t ≡ openAt s p ++ sections z → touches t ≡ touches z
+        → ((nc nl : ℕ) → placed nc nl t ≡ true → placed nc nl z ≡ true) → Next s p t
     unfolding far
-    enter2 frame2 framed2 n m o b =
+    enter2 frame2 framed2 n m o b k =
         enters (record {
           part = z;
           pre = pre ++ termBytes a;
@@ -185,6 +189,7 @@ module _ (s : List ℕ) (p : ℕ) (t a : Term) (q pre post : List ℕ) (frame : 
           moves = m;
           opens = o;
           aims = b;
+          keeps = k;
         })
         (omega (arith, width, length-append pre (termBytes a)))
         (via ∙ second-on s p f far (ap goes2 (byte-at s p t q e) ∙ g2) (omega (arith, there, some-bytes a, length-append pre (termBytes a)))

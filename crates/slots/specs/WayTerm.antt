@@ -9,7 +9,7 @@ use native.Mathlib.Nat.{add-zero}
 use native.Mathlib.Omega.{arith}
 use lib.ListN.{length, drop, length-append}
 use Rattle.paper.specs.Terms.{Term, termBytes, value}
-use Rattle.paper.specs.Evaluation.{touches, sections}
+use Rattle.paper.specs.Evaluation.{touches, sections, placed}
 use Rattle.paper.specs.States.{Card, State}
 use Rattle.paper.specs.Steps.{Move, finished, waits, stuck, full, long, goes, inPlace, move}
 use Rattle.slots.specs.Way.{onward, placeFrom, placeOf, aimAt, aimNumber, aimOf, place-here, place-on}
@@ -41,6 +41,7 @@ pub record Found (s : List ℕ) (p r : ℕ) (t : Term) : Type 0 where
   pub aims : touches t ≡ aimAt s r
   pub awaits : ready redex ≡ true
   pub lives : value t ≡ false → value redex ≡ false
+  pub keeps : (nc nl : ℕ) → placed nc nl t ≡ true → placed nc nl redex ≡ true
 
 at-once : (s : List ℕ) (p r : ℕ) (t : Term) → r ≡ p → onward s p ≡ p → ready t ≡ true → touches t ≡ aimAt s p → Found s p r t
 at-once s p r t er e y b = record {
@@ -56,6 +57,7 @@ at-once s p r t er e y b = record {
   aims = b ∙ ap (aimAt s) (sym er);
   awaits = y;
   lives = λ n. n;
+  keeps = λ nc nl h. h;
 }
 
 later : (s : List ℕ) (p r : ℕ) (t : Term) (i : Into s p t) → Found s (p + length (i .pre)) r (i .part) → Found s p r t
@@ -72,6 +74,7 @@ later s p r t i w = record {
   aims = i .aims ∙ w .aims;
   awaits = w .awaits;
   lives = λ n. w .lives (i .unfinished);
+  keeps = λ nc nl h. w .keeps nc nl (i .keeps nc nl h);
 }
   where
     shuffle : (m : List ℕ) → i .pre ++ ((w .pre ++ (m ++ w .post)) ++ i .post) ≡ (i .pre ++ w .pre) ++ (m ++ (w .post ++ i .post))

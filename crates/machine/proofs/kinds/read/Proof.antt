@@ -1,0 +1,111 @@
+-- The part is no cell, or the cell's value is exchanged for it. A held state has room for each slot, so the two tests of it never fail.
+use native.Mathlib.Omega.{arith}
+use borrow.Author.Needs.{needs}
+use Rattle.machine.specs.Means.{slot-low}
+use Rattle.machine.specs.Doing.{read-stuck, read-slot, read-end, read-done}
+use Rattle.machine.proofs.kinds.read.Statement.{statement}
+use Rattle.machine.proofs.kinds.read.Tie as tie
+
+shared-slice-read-if1 : tie.Need-shared-slice-read-if1
+shared-slice-read-if1 c = search needs
+
+returns : tie.Need-returns
+returns c = read-stuck (c .if1 .taken)
+
+add-byte-at : tie.Need-add-byte-at
+add-byte-at c = search needs
+
+byte-at-requires : tie.Need-byte-at-requires
+byte-at-requires c κs = search needs
+
+cast-j : tie.Need-cast-j
+cast-j c = search needs
+
+mul-two-at : tie.Need-mul-two-at
+mul-two-at c = search needs
+
+add-two-at : tie.Need-add-two-at
+add-two-at c = search needs
+
+two-at-requires : tie.Need-two-at-requires
+two-at-requires c κs = search needs
+
+returns-2 : tie.Need-returns-2
+returns-2 c =
+    let at-two-at = c .before in
+    let at-byte-at = c .before .before in
+    let at-if1 = c .before .before .before in
+    read-slot (at-if1 .if1 .left) (at-byte-at .byte-at .ensures) (at-two-at .two-at .ensures) (c .if2 .taken)
+
+mul-a : tie.Need-mul-a
+mul-a c =
+    let at-byte-at = c .before .before in
+    let at-start = c .before .before .before .before .before .before .before .before in
+    omega (arith, slot-low (at-start .args .size) (at-byte-at .byte-at .result) (at-start .pre .1 .small) (omega (arith, at-byte-at .byte-at .ok)))
+
+add-a : tie.Need-add-a
+add-a c =
+    let at-byte-at = c .before .before in
+    let at-start = c .before .before .before .before .before .before .before .before in
+    omega (arith, slot-low (at-start .args .size) (at-byte-at .byte-at .result) (at-start .pre .1 .small) (omega (arith, at-byte-at .byte-at .ok)))
+
+add-b : tie.Need-add-b
+add-b c =
+    let at-byte-at = c .before .before in
+    let at-start = c .before .before .before .before .before .before .before .before in
+    omega (arith, slot-low (at-start .args .size) (at-byte-at .byte-at .result) (at-start .pre .1 .small) (omega (arith, at-byte-at .byte-at .ok)))
+
+returns-3 : tie.Need-returns-3
+returns-3 c =
+    let at-if2 = c .before in
+    let at-two-at = c .before .before in
+    let at-byte-at = c .before .before .before in
+    let at-if1 = c .before .before .before .before in
+    read-end (at-if1 .if1 .left) (at-byte-at .byte-at .ensures) (at-two-at .two-at .ensures) (at-if2 .if2 .left) (c .if3 .taken)
+
+sub-splice : tie.Need-sub-splice
+sub-splice c = search needs
+
+part-splice-start : tie.Need-part-splice-start
+part-splice-start c = search needs
+
+part-splice-end : tie.Need-part-splice-end
+part-splice-end c = search needs
+
+splice-requires : tie.Need-splice-requires
+splice-requires c κs = search needs
+
+same-length : tie.Need-same-length
+same-length c = search needs
+
+returns-4 : tie.Need-returns-4
+returns-4 c =
+    let at-splice = c .before .before in
+    let at-two-at = c .before .before .before .before .before .before .before in
+    let at-byte-at = c .before .before .before .before .before .before .before .before in
+    let at-if1 = c .before .before .before .before .before .before .before .before .before in
+    read-done (at-if1 .if1 .left) (at-byte-at .byte-at .ensures) (at-two-at .two-at .ensures) (at-splice .splice .ensures)
+
+pub read-spec : {M : Type 1} → statement M
+read-spec =
+    tie.close
+    (tie.spec
+    shared-slice-read-if1
+    returns
+    add-byte-at
+    byte-at-requires
+    cast-j
+    mul-two-at
+    add-two-at
+    two-at-requires
+    returns-2
+    mul-a
+    add-a
+    add-b
+    returns-3
+    sub-splice
+    part-splice-start
+    part-splice-end
+    splice-requires
+    same-length
+    returns-4)

@@ -1,0 +1,208 @@
+-- One law of `Running` a way.
+use mathlib.Core.Path.{sym}
+use native.Mathlib.Omega.{arith}
+use lib.Seq.{length-take-le}
+use borrow.Author.Needs.{needs}
+use Rattle.machine.specs.Running.{thread-some, thread-short, thread-low, run-finished, run-redex, run-stuck, run-full, run-long, run-waits}
+use Rattle.machine.specs.Running.{run-outgrows, run-altering, run-made}
+use Rattle.machine.proofs.step.run_thread.Statement.{statement}
+use Rattle.machine.proofs.step.run_thread.Tie as tie
+
+shared-slice-read-is-value : tie.Need-shared-slice-read-is-value
+shared-slice-read-is-value c = thread-some (c .before .before .before .before .pre)
+
+is-value-requires : tie.Need-is-value-requires
+is-value-requires c κs = search needs
+
+returns : tie.Need-returns
+returns c = run-finished (c .before .before .before .before .before .before .pre) (c .before .is-value .ensures) (c .if1 .taken)
+
+place-requires : tie.Need-place-requires
+place-requires c κs = search needs
+
+skip-requires : tie.Need-skip-requires
+skip-requires c κs = search needs
+
+act-requires : tie.Need-act-requires
+act-requires c κs =
+    let at-skip = c .before .before in
+    let at-place = c .before .before .before in
+    let at-start = c .before .before .before .before .before .before .before .before .before .before in
+    (run-redex (at-start .pre) (at-place .place .ensures .says) (at-skip .skip .ensures .says), (thread-short (at-start .pre), at-start .pre .base .fits))
+
+enum-told : tie.Need-enum-told
+enum-told c = search needs
+
+enum-told-2 : tie.Need-enum-told-2
+enum-told-2 c = search needs
+
+enum-told-3 : tie.Need-enum-told-3
+enum-told-3 c = search needs
+
+enum-known-l : tie.Need-enum-known-l
+enum-known-l c = search needs
+
+enum-known-kind : tie.Need-enum-known-kind
+enum-known-kind c = search needs
+
+same-length : tie.Need-same-length
+same-length c = search needs
+
+same-length-2 : tie.Need-same-length-2
+same-length-2 c = search needs
+
+returns-2 : tie.Need-returns-2
+returns-2 c =
+    let at-kind = c .before .before in
+    let at-act = c .before .before .before .before .before .before in
+    let at-skip = c .before .before .before .before .before .before .before .before .before in
+    let at-place = c .before .before .before .before .before .before .before .before .before .before in
+    let at-if1 = c .before .before .before .before .before .before .before .before .before .before .before in
+    let at-is-value = c .before .before .before .before .before .before .before .before .before .before .before .before in
+    let at-start = c .before .before .before .before .before .before .before .before .before .before .before .before .before .before .before .before .before in
+    run-outgrows (at-start .pre) (at-place .place .ensures .says) (at-skip .skip .ensures .says) (at-is-value .is-value .ensures) (at-if1 .if1 .left) (at-act .act .ensures) (at-kind .kind .given .1) (omega (arith, c .if2 .taken, at-act .act .kept .1 .1 .1 .1 .1 .0))
+
+change-requires : tie.Need-change-requires
+change-requires c κs =
+    let at-kind = c .before .before .before in
+    let at-act = c .before .before .before .before .before .before .before in
+    let at-skip = c .before .before .before .before .before .before .before .before .before .before in
+    let at-place = c .before .before .before .before .before .before .before .before .before .before .before in
+    let at-if1 = c .before .before .before .before .before .before .before .before .before .before .before .before in
+    let at-is-value = c .before .before .before .before .before .before .before .before .before .before .before .before .before in
+    let at-start = c .before .before .before .before .before .before .before .before .before .before .before .before .before .before .before .before .before .before in
+    (at-start .pre .base .fits, run-altering (at-start .pre) (at-place .place .ensures .says) (at-skip .skip .ensures .says) (at-is-value .is-value .ensures) (at-if1 .if1 .left) (at-act .act .ensures) (at-kind .kind .given .1))
+
+slice-reshare-prefix-set-thread : tie.Need-slice-reshare-prefix-set-thread
+slice-reshare-prefix-set-thread c = search needs
+
+slice-aggregate-set-thread : tie.Need-slice-aggregate-set-thread
+slice-aggregate-set-thread c = sym (length-take-le _ _ (c .before .before .before .before .before .before .if2 .left))
+
+set-thread-requires : tie.Need-set-thread-requires
+set-thread-requires c κs =
+    let at-start = c .before .before .before .before .before .before .before .before .before .before .before .before .before .before .before .before .before .before .before .before .before .before .before in
+    (at-start .pre .base .fits, thread-low (at-start .pre))
+
+same-length-3 : tie.Need-same-length-3
+same-length-3 c = search needs
+
+same-length-4 : tie.Need-same-length-4
+same-length-4 c = search needs
+
+returns-3 : tie.Need-returns-3
+returns-3 c =
+    let at-act = c .before .before .before .before in
+    let at-skip = c .before .before .before .before .before .before .before in
+    let at-place = c .before .before .before .before .before .before .before .before in
+    let at-if1 = c .before .before .before .before .before .before .before .before .before in
+    let at-is-value = c .before .before .before .before .before .before .before .before .before .before in
+    let at-start = c .before .before .before .before .before .before .before .before .before .before .before .before .before .before .before in
+    run-stuck (at-start .pre) (at-place .place .ensures .says) (at-skip .skip .ensures .says) (at-is-value .is-value .ensures) (at-if1 .if1 .left) (at-act .act .ensures) (c .enum-told .given .1)
+
+same-length-5 : tie.Need-same-length-5
+same-length-5 c = search needs
+
+same-length-6 : tie.Need-same-length-6
+same-length-6 c = search needs
+
+returns-4 : tie.Need-returns-4
+returns-4 c =
+    let at-act = c .before .before .before .before in
+    let at-skip = c .before .before .before .before .before .before .before in
+    let at-place = c .before .before .before .before .before .before .before .before in
+    let at-if1 = c .before .before .before .before .before .before .before .before .before in
+    let at-is-value = c .before .before .before .before .before .before .before .before .before .before in
+    let at-start = c .before .before .before .before .before .before .before .before .before .before .before .before .before .before .before in
+    run-full (at-start .pre) (at-place .place .ensures .says) (at-skip .skip .ensures .says) (at-is-value .is-value .ensures) (at-if1 .if1 .left) (at-act .act .ensures) (c .enum-told2 .given .1)
+
+same-length-7 : tie.Need-same-length-7
+same-length-7 c = search needs
+
+same-length-8 : tie.Need-same-length-8
+same-length-8 c = search needs
+
+returns-5 : tie.Need-returns-5
+returns-5 c =
+    let at-act = c .before .before .before .before in
+    let at-skip = c .before .before .before .before .before .before .before in
+    let at-place = c .before .before .before .before .before .before .before .before in
+    let at-if1 = c .before .before .before .before .before .before .before .before .before in
+    let at-is-value = c .before .before .before .before .before .before .before .before .before .before in
+    let at-start = c .before .before .before .before .before .before .before .before .before .before .before .before .before .before .before in
+    run-long (at-start .pre) (at-place .place .ensures .says) (at-skip .skip .ensures .says) (at-is-value .is-value .ensures) (at-if1 .if1 .left) (at-act .act .ensures) (c .enum-told3 .given .1)
+
+same-length-9 : tie.Need-same-length-9
+same-length-9 c = search needs
+
+same-length-10 : tie.Need-same-length-10
+same-length-10 c = search needs
+
+returns-6 : tie.Need-returns-6
+returns-6 c =
+    let at-l = c .before in
+    let at-act = c .before .before .before .before .before in
+    let at-skip = c .before .before .before .before .before .before .before .before in
+    let at-place = c .before .before .before .before .before .before .before .before .before in
+    let at-if1 = c .before .before .before .before .before .before .before .before .before .before in
+    let at-is-value = c .before .before .before .before .before .before .before .before .before .before .before in
+    let at-start = c .before .before .before .before .before .before .before .before .before .before .before .before .before .before .before .before in
+    run-waits (at-start .pre) (at-place .place .ensures .says) (at-skip .skip .ensures .says) (at-is-value .is-value .ensures) (at-if1 .if1 .left) (at-act .act .ensures) (at-l .l .given .1)
+
+same-length-11 : tie.Need-same-length-11
+same-length-11 c = search needs
+
+same-length-12 : tie.Need-same-length-12
+same-length-12 c = search needs
+
+returns-7 : tie.Need-returns-7
+returns-7 c =
+    let at-set-thread = c .before .before in
+    let at-change = c .before .before .before .before .before .before .before in
+    let at-if2 = c .before .before .before .before .before .before .before .before .before in
+    let at-kind = c .before .before .before .before .before .before .before .before .before .before .before in
+    let at-act = c .before .before .before .before .before .before .before .before .before .before .before .before .before .before .before in
+    let at-skip = c .before .before .before .before .before .before .before .before .before .before .before .before .before .before .before .before .before .before in
+    let at-place = c .before .before .before .before .before .before .before .before .before .before .before .before .before .before .before .before .before .before .before in
+    let at-if1 = c .before .before .before .before .before .before .before .before .before .before .before .before .before .before .before .before .before .before .before .before in
+    let at-is-value = c .before .before .before .before .before .before .before .before .before .before .before .before .before .before .before .before .before .before .before .before .before in
+    let at-start = c .before .before .before .before .before .before .before .before .before .before .before .before .before .before .before .before .before .before .before .before .before .before .before .before .before .before in
+    run-made (at-start .pre) (at-place .place .ensures .says) (at-skip .skip .ensures .says) (at-is-value .is-value .ensures) (at-if1 .if1 .left) (at-act .act .ensures) (at-kind .kind .given .1) (omega (arith, at-if2 .if2 .left, at-act .act .kept .1 .1 .1 .1 .1 .0)) (at-change .change .kept .0) (at-change .change .ensures) (at-set-thread .set-thread .ensures)
+
+pub run-thread-spec : {M : Type 1} → statement M
+run-thread-spec =
+    tie.close
+    (tie.spec
+    shared-slice-read-is-value
+    is-value-requires
+    returns
+    place-requires
+    skip-requires
+    act-requires
+    enum-told
+    enum-told-2
+    enum-told-3
+    enum-known-l
+    enum-known-kind
+    same-length
+    same-length-2
+    returns-2
+    change-requires
+    slice-reshare-prefix-set-thread
+    slice-aggregate-set-thread
+    set-thread-requires
+    same-length-3
+    same-length-4
+    returns-3
+    same-length-5
+    same-length-6
+    returns-4
+    same-length-7
+    same-length-8
+    returns-5
+    same-length-9
+    same-length-10
+    returns-6
+    same-length-11
+    same-length-12
+    returns-7)

@@ -1,0 +1,20 @@
+-- ---- what the code's answers mean
+pub mod Means
+pub mod Kinds
+-- ---- the kinds of step
+pub mod Forms
+pub mod Parts
+pub mod Putting
+pub mod Doing
+-- ---- which kind it is
+pub mod Inner
+pub mod Cutting
+pub mod Acting
+-- ---- what else changes
+pub mod Altering
+-- ---- the step
+pub mod Answering
+pub mod Finished
+pub mod Running
+pub mod Entering
+pub mod Around

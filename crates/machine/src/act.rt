@@ -1,0 +1,31 @@
+// What a step is, before any of it is done.
+
+// What a card has room for.
+pub struct Card {
+    pub threads: usize,
+    pub thread_bytes: usize,
+    pub cells: usize,
+    pub cell_bytes: usize,
+    pub locks: usize,
+}
+
+// What changes beside the thread. A value or a new thread is said by its place in the old thread's bytes, from and to.
+pub(crate) enum Also {
+    Nothing,
+    NewCell(usize, usize),
+    SetCell(usize, usize, usize),
+    NewLock,
+    Taken(usize),
+    Released(usize),
+    NewThread(usize, usize, usize),
+}
+
+// What the part at the place of evaluation does: none of it, or a kind and a number, how many bytes the thread then has (or one more than it has
+// room for), and what else changes.
+pub(crate) enum Act {
+    Stuck,
+    Full,
+    Long,
+    Waits(usize),
+    Goes(u8, usize, usize, Also),
+}

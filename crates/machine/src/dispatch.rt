@@ -1,0 +1,96 @@
+// From the code at the place of evaluation to the kind of step.
+ghost use lib.ListN.{length};
+ghost use Rattle.paper.specs.States.{Fits};
+ghost use Rattle.machine.specs.Means.{Short};
+ghost use Rattle.machine.specs.Acting.{cardOf, Acts, Several};
+ghost use Rattle.machine.specs.Cutting.{Redex};
+ghost use lib.ListN.{getD};
+use crate::act::Act;
+use crate::act::Card;
+use crate::kinds::add;
+use crate::kinds::apply;
+use crate::kinds::bind;
+use crate::kinds::branch;
+use crate::kinds::fork;
+use crate::kinds::make_cell;
+use crate::kinds::make_lock;
+use crate::kinds::read;
+use crate::kinds::release;
+use crate::kinds::take;
+use crate::kinds::went_on;
+use crate::kinds::write;
+use plans::store::byte_at;
+use slots::walk::skip;
+
+// The codes of two parts or three.
+fn act_on_more(s: &[u8], p: usize, q: usize, state: &[u8], card: Card, out: &mut [u8]) -> Act
+    requires { ⌜ Redex (now s) p q ⌝ }
+    requires { ⌜ Short (now s) (now out) ⌝ }
+    requires { ⌜ Fits (cardOf card) ⌝ }
+    requires { ⌜ Several (getD (now s) p 0) ⌝ }
+    ensures { λ r. ⌜ Acts (cardOf card) (now (s .entry)) p q (now (state .entry)) (length (now (out .entry))) (now (out .exit)) r ⌝ }
+{
+    let c = s[p];
+    let f = p + 1;
+    let g = skip(s, f);
+    if c == 5 {
+        return apply(s, p, f, g, q, out);
+    }
+    if c == 8 {
+        return write(s, p, f, g, q, card.cell_bytes, out);
+    }
+    if c == 11 {
+        return take(s, p, f, g, q, state, out);
+    }
+    if c == 12 {
+        return bind(s, p, f, g, q, out);
+    }
+    if c == 13 {
+        return went_on(s, p, g, q, out);
+    }
+    if c == 14 {
+        return add(s, p, f, g, q, out);
+    }
+    if c == 15 {
+        let h = skip(s, g);
+        return branch(s, p, f, g, h, q, out);
+    }
+    Act::Stuck
+}
+
+// What the part from p up to q of a thread's bytes does, on the state; the thread afterwards goes to `out`.
+pub(crate) fn act(s: &[u8], p: usize, q: usize, state: &[u8], card: Card, out: &mut [u8]) -> Act
+    requires { ⌜ Redex (now s) p q ⌝ }
+    requires { ⌜ Short (now s) (now out) ⌝ }
+    requires { ⌜ Fits (cardOf card) ⌝ }
+    ensures { λ r. ⌜ Acts (cardOf card) (now (s .entry)) p q (now (state .entry)) (length (now (out .entry))) (now (out .exit)) r ⌝ }
+{
+    let c = s[p];
+    let f = p + 1;
+    if c == 6 {
+        return make_cell(
+            s,
+            p,
+            f,
+            q,
+            byte_at(state, 4),
+            card.cells,
+            card.cell_bytes,
+            out,
+        );
+    }
+    if c == 7 {
+        let from = 256 + card.threads * card.thread_bytes;
+        return read(s, p, f, q, state, from, card.cell_bytes, out);
+    }
+    if c == 9 {
+        return fork(s, p, f, q, byte_at(state, 3), card.threads, out);
+    }
+    if c == 10 {
+        return make_lock(s, p, f, q, byte_at(state, 5), card.locks, out);
+    }
+    if c == 18 {
+        return release(s, p, p + 2, q, out);
+    }
+    act_on_more(s, p, q, state, card, out)
+}
