@@ -18,3 +18,4 @@ pub mod Finished
 pub mod Running
 pub mod Entering
 pub mod Around
+pub mod Public

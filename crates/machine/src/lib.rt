@@ -5,3 +5,4 @@ mod kinds; // kinds.rt: the kinds of step, on a thread's bytes
 mod dispatch; // dispatch.rt: from the code to the kind
 mod change; // change.rt: the stores of a change
 pub mod step; // step.rt: the step
+pub mod entry; // entry.rt: the public step

@@ -1,0 +1,25 @@
+// The public step, on the card of document 01.
+ghost use Rattle.machine.specs.Public.{Steps};
+use crate::act::Card;
+use crate::step::Step;
+use crate::step::step_held;
+
+// One step of a thread: answers 1 and 18 first, then the machine's. Where no step is made the state is unchanged.
+pub fn step(state: &mut [u8], thread: u64) -> Step
+    ensures { λ r. ⌜ Steps (now (state .entry)) thread (now (state .exit)) r ⌝ }
+{
+    if state.len() < 49408 {
+        return Step::BufferShort;
+    }
+    if !states::is_state(state) {
+        return Step::NoState;
+    }
+    let card = Card {
+        threads: 16,
+        thread_bytes: 2048,
+        cells: 64,
+        cell_bytes: 256,
+        locks: 32,
+    };
+    step_held(state, thread, card)
+}
