@@ -4,17 +4,17 @@ ghost use mathlib.Core.Path.{_≡_};
 ghost use Rattle.vectors.specs.Due.{Exactly, Filled, Cleared, AsDue, LoadAsDue, Untouched};
 
 // What every lent buffer is filled with before a call.
-pub const PATTERN: u8 = 165;
+pub(crate) const PATTERN: u8 = 165;
 
 // The image of a line, in the buffer that it was read into.
-pub fn first(s: &[u8], n: usize) -> &[u8] {
+pub(crate) fn first(s: &[u8], n: usize) -> &[u8] {
     if n < s.len() {
         return &s[0..n];
     }
     s
 }
 
-pub fn filled(s: &[u8], b: u8) -> bool
+pub(crate) fn filled(s: &[u8], b: u8) -> bool
     ensures { λ r. ⌜ Exactly r (Filled b (now (s .entry))) ⌝ }
 {
     let mut i = 0;
@@ -28,7 +28,7 @@ pub fn filled(s: &[u8], b: u8) -> bool
 }
 
 // The work buffer after every answer but 1.
-pub fn cleared(work: &[u8]) -> bool
+pub(crate) fn cleared(work: &[u8]) -> bool
     ensures { λ r. ⌜ Exactly r (Cleared (now (work .entry))) ⌝ }
 {
     if work.len() < 40960 {
@@ -40,7 +40,7 @@ pub fn cleared(work: &[u8]) -> bool
     false
 }
 
-pub fn equal(a: Verdict, b: Verdict) -> bool
+pub(crate) fn equal(a: Verdict, b: Verdict) -> bool
     ensures { λ r. ⌜ Exactly r (a ≡ b) ⌝ }
 {
     match a {
@@ -60,7 +60,13 @@ pub fn equal(a: Verdict, b: Verdict) -> bool
     }
 }
 
-pub fn as_due(verdict: Verdict, due: Verdict, types: &[u8], expected: &[u8], work: &[u8]) -> bool
+pub(crate) fn as_due(
+    verdict: Verdict,
+    due: Verdict,
+    types: &[u8],
+    expected: &[u8],
+    work: &[u8],
+) -> bool
     ensures { λ r. ⌜ Exactly r (AsDue verdict due (now (types .entry)) (now (expected .entry)) (now (work .entry))) ⌝ }
 {
     if equal(verdict, due) {
@@ -72,7 +78,7 @@ pub fn as_due(verdict: Verdict, due: Verdict, types: &[u8], expected: &[u8], wor
 }
 
 // Answer 1, and both buffers as they were filled.
-pub fn untouched(verdict: Verdict, types: &[u8], work: &[u8]) -> bool
+pub(crate) fn untouched(verdict: Verdict, types: &[u8], work: &[u8]) -> bool
     ensures { λ r. ⌜ Exactly r (Untouched verdict (now (types .entry)) (now (work .entry))) ⌝ }
 {
     if equal(verdict, Verdict::Refused(1, 0)) {
@@ -84,7 +90,7 @@ pub fn untouched(verdict: Verdict, types: &[u8], work: &[u8]) -> bool
 }
 
 // A load's answer, and the bytes that it may not touch.
-pub fn load_as_due(verdict: Verdict, due: Verdict, kept: &[u8]) -> bool
+pub(crate) fn load_as_due(verdict: Verdict, due: Verdict, kept: &[u8]) -> bool
     ensures { λ r. ⌜ Exactly r (LoadAsDue verdict due (now (kept .entry))) ⌝ }
 {
     if equal(verdict, due) {

@@ -66,7 +66,7 @@ fn read_line(line: &[u8], image: &mut [u8], types: &mut [u8]) -> Said {
 }
 
 // Lends more than the judge asks for, so that what it may not touch is seen.
-pub fn judged(line: &[u8]) -> Outcome {
+pub(crate) fn judged(line: &[u8]) -> Outcome {
     let mut image = [0u8; 5000];
     let mut due_types = [PATTERN; 300];
     let Said::Due(n, due) = read_line(line, &mut image, &mut due_types) else {
@@ -89,13 +89,13 @@ fn on_short(line: &[u8], types: &mut [u8], work: &mut [u8]) -> Outcome {
     outcome_of(due::untouched(verdict, types, work))
 }
 
-pub fn with_short_types(line: &[u8]) -> Outcome {
+pub(crate) fn with_short_types(line: &[u8]) -> Outcome {
     let mut types = [PATTERN; 255];
     let mut work = [PATTERN; 41000];
     on_short(line, &mut types, &mut work)
 }
 
-pub fn with_short_work(line: &[u8]) -> Outcome {
+pub(crate) fn with_short_work(line: &[u8]) -> Outcome {
     let mut types = [PATTERN; 300];
     let mut work = [PATTERN; 40959];
     on_short(line, &mut types, &mut work)

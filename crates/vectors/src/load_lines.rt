@@ -72,7 +72,7 @@ fn past_state(state: &[u8]) -> &[u8] {
     &state[49408..]
 }
 
-pub fn raw(line: &[u8]) -> Outcome {
+pub(crate) fn raw(line: &[u8]) -> Outcome {
     let mut image = [0u8; 5000];
     let Said::Due(n, due) = read_line(line, &mut image) else {
         return Outcome::Unreadable;
@@ -82,7 +82,7 @@ pub fn raw(line: &[u8]) -> Outcome {
     outcome_of(due::load_as_due(verdict, due, kept(due, &state)))
 }
 
-pub fn judged(line: &[u8]) -> Outcome {
+pub(crate) fn judged(line: &[u8]) -> Outcome {
     let mut image = [0u8; 5000];
     let Said::Due(n, due) = read_line(line, &mut image) else {
         return Outcome::Unreadable;

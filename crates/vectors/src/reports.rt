@@ -3,14 +3,14 @@ use libc::STDOUT_FILENO;
 
 const KINDS: usize = 5;
 
-pub enum Outcome {
+pub(crate) enum Outcome {
     Passed,
     Failed,
     Unreadable,
     LeftOut,
 }
 
-pub fn outcome_of(passed: bool) -> Outcome {
+pub(crate) fn outcome_of(passed: bool) -> Outcome {
     if passed {
         Outcome::Passed
     } else {
@@ -19,11 +19,11 @@ pub fn outcome_of(passed: bool) -> Outcome {
 }
 
 // Stops at a million, which no input reaches: every number fits.
-pub fn more(n: usize) -> usize {
+pub(crate) fn more(n: usize) -> usize {
     if n < 1000000 { n + 1 } else { n }
 }
 
-pub fn add(counts: &mut [usize], kind: usize) {
+pub(crate) fn add(counts: &mut [usize], kind: usize) {
     if kind < counts.len() {
         counts[kind] = more(counts[kind]);
     }
@@ -40,24 +40,24 @@ fn print_kind(kind: usize) {
     }
 }
 
-pub fn vector(kind: usize, number: usize, verdict: &[u8]) {
+pub(crate) fn vector(kind: usize, number: usize, verdict: &[u8]) {
     print_kind(kind);
     print(b" ");
     io::print_decimal(STDOUT_FILENO, number as u64);
     print(verdict);
 }
 
-pub fn unreadable(number: usize) {
+pub(crate) fn unreadable(number: usize) {
     print(b"line ");
     io::print_decimal(STDOUT_FILENO, number as u64);
     print(b" unreadable\n");
 }
 
-pub fn too_long() {
+pub(crate) fn too_long() {
     print(b"input too long\n");
 }
 
-pub fn short(what: &[u8], outcome: Outcome) {
+pub(crate) fn short(what: &[u8], outcome: Outcome) {
     print(what);
     match outcome {
         Outcome::Passed => print(b" ok\n"),
@@ -105,7 +105,7 @@ fn print_all_left(left: &[usize]) {
     }
 }
 
-pub fn summary(done: &[usize], failed: &[usize], left: &[usize]) {
+pub(crate) fn summary(done: &[usize], failed: &[usize], left: &[usize]) {
     print_runs(done, failed);
     print(b"left out:");
     print_all_left(left);
