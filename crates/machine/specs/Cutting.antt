@@ -17,30 +17,31 @@ pub record Redex (s : List ℕ) (p q : ℕ) : Type 0 where
   pub term : Term
   pub there : Part s p q term
 
+-- the codes of one part that is looked at, and of two
+pub data One : ℕ → Type 0 where
+  of-cell : One 6
+  of-read : One 7
+  of-newlock : One 10
+
+pub data Two : ℕ → Type 0 where
+  of-app : Two 5
+  of-write : Two 8
+  of-sync : Two 11
+  of-bind : Two 12
+  of-add : Two 14
+
 module _ {s : List ℕ} {p q : ℕ} (r : Redex s p q) where
   coded : (c : ℕ) → getD s p 0 ≡ c → Coded c (r .term)
   coded c e = coded-by c (r .term) (sym (part-first (r .there)) ∙ e)
 
-  pub cell-cut : getD s p 0 ≡ 6 → Cut s (p + 1) q
+  pub one-cut : {c : ℕ} → One c → getD s p 0 ≡ c → Cut s (p + 1) q
   unfolding termBytes
-  cell-cut e = go (r .there) (coded 6 e)
+  one-cut {c} k e = go k (r .there) (coded c e)
     where
-      go : {t : Term} → Part s p q t → Coded 6 t → Cut s (p + 1) q
-      go {t} h (is-cell a) = part-cut (one-part 6 t h a refl)
-
-  pub read-cut : getD s p 0 ≡ 7 → Cut s (p + 1) q
-  unfolding termBytes
-  read-cut e = go (r .there) (coded 7 e)
-    where
-      go : {t : Term} → Part s p q t → Coded 7 t → Cut s (p + 1) q
-      go {t} h (is-read a) = part-cut (one-part 7 t h a refl)
-
-  pub newlock-cut : getD s p 0 ≡ 10 → Cut s (p + 1) q
-  unfolding termBytes
-  newlock-cut e = go (r .there) (coded 10 e)
-    where
-      go : {t : Term} → Part s p q t → Coded 10 t → Cut s (p + 1) q
-      go {t} h (is-newlock a) = part-cut (one-part 10 t h a refl)
+      go : {c : ℕ} {t : Term} → One c → Part s p q t → Coded c t → Cut s (p + 1) q
+      go {t = t} of-cell h (is-cell a) = part-cut (one-part 6 t h a refl)
+      go {t = t} of-read h (is-read a) = part-cut (one-part 7 t h a refl)
+      go {t = t} of-newlock h (is-newlock a) = part-cut (one-part 10 t h a refl)
 
   pub section-cut : getD s p 0 ≡ 18 → Cut s (p + 2) q
   section-cut e = go (r .there) (coded 18 e)
@@ -51,40 +52,16 @@ module _ {s : List ℕ} {p q : ℕ} (r : Redex s p q) where
   cut-both : {g : ℕ} {a b : Term} → Part s (p + 1) g a × Part s g q b → Cut2 s (p + 1) g q
   cut-both w = let x = part-cut (w .0) in let y = part-cut (w .1) in record { first = x .some; second = y .some; inside = y .inside }
 
-  pub app-cut : {g : ℕ} → getD s p 0 ≡ 5 → g ≡ skipOf s (p + 1) → Cut2 s (p + 1) g q
+  pub two-cut : {c g : ℕ} → Two c → getD s p 0 ≡ c → g ≡ skipOf s (p + 1) → Cut2 s (p + 1) g q
   unfolding termBytes
-  app-cut {g} e f = go (r .there) (coded 5 e)
+  two-cut {c} {g} k e f = go k (r .there) (coded c e)
     where
-      go : {t : Term} → Part s p q t → Coded 5 t → Cut2 s (p + 1) g q
-      go {t} h (is-app a b) = cut-both (two-parts 5 t h f a b refl)
-
-  pub write-cut : {g : ℕ} → getD s p 0 ≡ 8 → g ≡ skipOf s (p + 1) → Cut2 s (p + 1) g q
-  unfolding termBytes
-  write-cut {g} e f = go (r .there) (coded 8 e)
-    where
-      go : {t : Term} → Part s p q t → Coded 8 t → Cut2 s (p + 1) g q
-      go {t} h (is-write a b) = cut-both (two-parts 8 t h f a b refl)
-
-  pub sync-cut : {g : ℕ} → getD s p 0 ≡ 11 → g ≡ skipOf s (p + 1) → Cut2 s (p + 1) g q
-  unfolding termBytes
-  sync-cut {g} e f = go (r .there) (coded 11 e)
-    where
-      go : {t : Term} → Part s p q t → Coded 11 t → Cut2 s (p + 1) g q
-      go {t} h (is-sync a b) = cut-both (two-parts 11 t h f a b refl)
-
-  pub bind-cut : {g : ℕ} → getD s p 0 ≡ 12 → g ≡ skipOf s (p + 1) → Cut2 s (p + 1) g q
-  unfolding termBytes
-  bind-cut {g} e f = go (r .there) (coded 12 e)
-    where
-      go : {t : Term} → Part s p q t → Coded 12 t → Cut2 s (p + 1) g q
-      go {t} h (is-bind a b) = cut-both (two-parts 12 t h f a b refl)
-
-  pub add-cut : {g : ℕ} → getD s p 0 ≡ 14 → g ≡ skipOf s (p + 1) → Cut2 s (p + 1) g q
-  unfolding termBytes
-  add-cut {g} e f = go (r .there) (coded 14 e)
-    where
-      go : {t : Term} → Part s p q t → Coded 14 t → Cut2 s (p + 1) g q
-      go {t} h (is-add a b) = cut-both (two-parts 14 t h f a b refl)
+      go : {c : ℕ} {t : Term} → Two c → Part s p q t → Coded c t → Cut2 s (p + 1) g q
+      go {t = t} of-app h (is-app a b) = cut-both (two-parts 5 t h f a b refl)
+      go {t = t} of-write h (is-write a b) = cut-both (two-parts 8 t h f a b refl)
+      go {t = t} of-sync h (is-sync a b) = cut-both (two-parts 11 t h f a b refl)
+      go {t = t} of-bind h (is-bind a b) = cut-both (two-parts 12 t h f a b refl)
+      go {t = t} of-add h (is-add a b) = cut-both (two-parts 14 t h f a b refl)
 
   pub seq-cut : {g : ℕ} → getD s p 0 ≡ 13 → g ≡ skipOf s (p + 1) → Cut s g q
   unfolding termBytes

@@ -1,7 +1,7 @@
 // What a step is, before any of it is done.
 
 // What a card has room for.
-pub struct Card {
+pub(crate) struct Card {
     pub threads: usize,
     pub thread_bytes: usize,
     pub cells: usize,

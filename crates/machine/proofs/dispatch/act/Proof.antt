@@ -3,7 +3,7 @@ use native.Mathlib.Omega.{arith}
 use borrow.Author.Needs.{needs}
 use Rattle.paper.specs.States.{total}
 use Rattle.machine.specs.Means.{part-cut}
-use Rattle.machine.specs.Cutting.{cell-cut, read-cut, newlock-cut, section-cut}
+use Rattle.machine.specs.Cutting.{of-cell, of-read, of-newlock, one-cut, section-cut}
 use Rattle.machine.specs.Acting.{acts-cell, acts-read, acts-fork, acts-newlock, acts-release}
 use Rattle.machine.proofs.dispatch.act.Statement.{statement}
 use Rattle.machine.proofs.dispatch.act.Tie as tie
@@ -18,7 +18,7 @@ byte-at-requires : tie.Need-byte-at-requires
 byte-at-requires c κs = search needs
 
 make-cell-requires : tie.Need-make-cell-requires
-make-cell-requires c κs = cell-cut (c .before .before .before .before .before .before .before .pre .0) (c .before .before .if1 .taken)
+make-cell-requires c κs = one-cut (c .before .before .before .before .before .before .before .pre .0) of-cell (c .before .before .if1 .taken)
 
 same-length : tie.Need-same-length
 same-length c = search needs
@@ -44,7 +44,7 @@ unfolding total
 read-requires c κs =
     let at-if2 = c .before .before in
     let at-start = c .before .before .before .before .before .before .before .before in
-    let z = at-start .pre .1 .1 .size in (read-cut (at-start .pre .0) (at-if2 .if2 .taken), record { low = omega arith; small = at-start .pre .1 .1 .cellBytes })
+    let z = at-start .pre .1 .1 .size in (one-cut (at-start .pre .0) of-read (at-if2 .if2 .taken), record { low = omega arith; small = at-start .pre .1 .1 .cellBytes })
 
 same-length-2 : tie.Need-same-length-2
 same-length-2 c = search needs
@@ -80,7 +80,7 @@ make-lock-requires : tie.Need-make-lock-requires
 make-lock-requires c κs =
     let at-if4 = c .before .before in
     let at-start = c .before .before .before .before .before .before .before .before .before .before in
-    (newlock-cut (at-start .pre .0) (at-if4 .if4 .taken), at-start .pre .1 .0)
+    (one-cut (at-start .pre .0) of-newlock (at-if4 .if4 .taken), at-start .pre .1 .0)
 
 same-length-4 : tie.Need-same-length-4
 same-length-4 c = search needs

@@ -2,7 +2,7 @@
 use native.Mathlib.Omega.{arith}
 use borrow.Author.Needs.{needs}
 use Rattle.machine.specs.Means.{part-cut}
-use Rattle.machine.specs.Cutting.{app-cut, write-cut, sync-cut, bind-cut, seq-cut, add-cut, cond-cut}
+use Rattle.machine.specs.Cutting.{of-app, of-write, of-sync, of-bind, of-add, two-cut, seq-cut, cond-cut}
 use Rattle.machine.specs.Acting.{acts-app, acts-write, acts-sync, acts-bind, acts-seq, acts-add, acts-cond, acts-else}
 use Rattle.machine.proofs.dispatch.act_on_more.Statement.{statement}
 use Rattle.machine.proofs.dispatch.act_on_more.Tie as tie
@@ -21,7 +21,7 @@ apply-requires c κs =
     let at-if1 = c .before in
     let at-skip = c .before .before in
     let at-start = c .before .before .before .before .before .before .before in
-    (app-cut (at-start .pre .0) (at-if1 .if1 .taken) (at-skip .skip .ensures .says), at-start .pre .1 .0)
+    (two-cut (at-start .pre .0) of-app (at-if1 .if1 .taken) (at-skip .skip .ensures .says), at-start .pre .1 .0)
 
 same-length : tie.Need-same-length
 same-length c = search needs
@@ -39,7 +39,7 @@ write-requires c κs =
     let at-if2 = c .before in
     let at-skip = c .before .before .before in
     let at-start = c .before .before .before .before .before .before .before .before in
-    write-cut (at-start .pre .0) (at-if2 .if2 .taken) (at-skip .skip .ensures .says)
+    two-cut (at-start .pre .0) of-write (at-if2 .if2 .taken) (at-skip .skip .ensures .says)
 
 same-length-2 : tie.Need-same-length-2
 same-length-2 c = search needs
@@ -57,7 +57,7 @@ take-requires c κs =
     let at-if3 = c .before in
     let at-skip = c .before .before .before .before in
     let at-start = c .before .before .before .before .before .before .before .before .before in
-    sync-cut (at-start .pre .0) (at-if3 .if3 .taken) (at-skip .skip .ensures .says)
+    two-cut (at-start .pre .0) of-sync (at-if3 .if3 .taken) (at-skip .skip .ensures .says)
 
 same-length-3 : tie.Need-same-length-3
 same-length-3 c = search needs
@@ -75,7 +75,7 @@ bind-requires c κs =
     let at-if4 = c .before in
     let at-skip = c .before .before .before .before .before in
     let at-start = c .before .before .before .before .before .before .before .before .before .before in
-    (bind-cut (at-start .pre .0) (at-if4 .if4 .taken) (at-skip .skip .ensures .says), at-start .pre .1 .0)
+    (two-cut (at-start .pre .0) of-bind (at-if4 .if4 .taken) (at-skip .skip .ensures .says), at-start .pre .1 .0)
 
 same-length-4 : tie.Need-same-length-4
 same-length-4 c = search needs
@@ -111,7 +111,7 @@ add-requires c κs =
     let at-if6 = c .before in
     let at-skip = c .before .before .before .before .before .before .before in
     let at-start = c .before .before .before .before .before .before .before .before .before .before .before .before in
-    add-cut (at-start .pre .0) (at-if6 .if6 .taken) (at-skip .skip .ensures .says)
+    two-cut (at-start .pre .0) of-add (at-if6 .if6 .taken) (at-skip .skip .ensures .says)
 
 same-length-6 : tie.Need-same-length-6
 same-length-6 c = search needs
