@@ -40,3 +40,5 @@ pub mod CallLaws
 pub mod LoadLaws
 pub mod RunLaws
 pub mod CaseLaws
+pub mod Numbers
+pub mod Touched
