@@ -1,1 +1,6 @@
-pub mod Packed
+pub mod Packing
+pub mod Judging
+pub mod Loading
+pub mod Stepping
+pub mod Racing
+pub mod Listing

@@ -1,25 +1,8 @@
-// The functions that C calls: each answers one number, its parts at fixed bits.
-use judging::entry::Verdict;
-ghost use mathlib.Core.Path.{_≡_};
-ghost use Rattle.judging.specs.Entry.{said};
-ghost use Rattle.bench.specs.Packed.{packed, Fits, JudgesC};
-
-// Bits 0 to 7: the number of the answer; above them the length of the type (accepted) or the place (refused).
-fn pack(verdict: Verdict) -> u64
-    requires { ⌜ Fits (said verdict) ⌝ }
-    ensures { λ r. ⌜ r ≡ packed (said verdict) ⌝ }
-{
-    match verdict {
-        Verdict::Accepted(length) => (length as u64) * 256,
-        Verdict::Refused(number, place) => (place as u64) * 256 + (number as u64),
-    }
-}
-
-// The judge.
-#[no_mangle]
-pub extern "C" fn laverockin_judge(image: &[u8], types: &mut [u8], work: &mut [u8]) -> u64
-    ensures { λ r. ⌜ JudgesC (now (image .entry)) (now (types .entry)) (now (work .entry)) r (now (types .exit)) (now (work .exit)) ⌝ }
-{
-    let verdict = judging::entry::judge(image, types, work);
-    pack(verdict)
-}
+// The functions that C calls (include/laverockin.h). Each is the library's own, with its answer as one number: the parts stand at fixed bits, the
+// number of the answer lowest.
+mod pack; // pack.rt: a part below the others
+mod judging_c; // judging_c.rt: the judge
+mod loading_c; // loading_c.rt: the two loads
+mod stepping_c; // stepping_c.rt: the step
+mod racing_c; // racing_c.rt: the race finder
+mod listing_c; // listing_c.rt: the lister

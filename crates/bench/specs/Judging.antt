@@ -1,9 +1,8 @@
--- How an answer is packed into one number for C: the number of the answer in bits 0 to 7; above them the length of the type where it is
--- accepted, the place where it is refused.
+-- The judge for C: above the number of the answer stands the length of the type where it is accepted, the place where it is refused.
 use mathlib.Core.Path.{_≡_, refl, sym, _∙_}
 use mathlib.Core.Bool.{Bool, true, false, _||_}
 use mathlib.Core.List.{List}
-use Prim.Native.Nat.{ℕ, _+_, _*_, _≤_}
+use Prim.Native.Nat.{ℕ, _≤_}
 use native.Mathlib.Omega.{arith}
 use lib.Dec.{ltb}
 use lib.ListN.{length}
@@ -14,10 +13,11 @@ use Rattle.paper.specs.Calls.{JudgeCall, judgeCall, laid, zeroed, typeBytes, wo
 use Rattle.laws.specs.TypesRead.{bytes-length}
 use Rattle.laws.specs.Sizes.{verdict-small}
 use Rattle.laws.specs.Verdicts.{refused-place}
+use Rattle.bench.specs.Packing.{below}
 
 unfoldable pub packed : Out ℕ → ℕ
-packed (ok n) = n * 256
-packed (refused k p) = p * 256 + k
+packed (ok n) = below 0 n
+packed (refused k p) = below k p
 
 -- the number r, and the type buffer and the work buffer after the call (t′, w′) from those before it (t, w)
 pub record JudgesC (image t w : List ℕ) (r : ℕ) (t′ w′ : List ℕ) : Type 0 where
