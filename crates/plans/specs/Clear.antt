@@ -10,7 +10,8 @@ use lib.Seq.{getD-take, getD-drop}
 use borrow.Author.Tests.{eqb-true, eq-eqb}
 use Rattle.paper.specs.Base.{at}
 use Rattle.paper.specs.States.{all}
-use Rattle.laws.specs.Tests.{split}
+use borrow.Author.Count.{below-more}
+use Rattle.laws.specs.Tests.{split, no-true}
 
 unfoldable pub clearBytes : List ℕ → Bool
 clearBytes s = all (eqb 0) s
@@ -33,6 +34,25 @@ not-clear s k n = go (clearBytes s) refl
     go : (b : Bool) → clearBytes s ≡ b → clearBytes s ≡ false
     go true e = absurd (n (clear-at s e k))
     go false e = e
+
+-- ---- all bytes below i looked at, r so far
+
+pub record ClearTo (s : List ℕ) (i : ℕ) (r : Bool) : Type 0 where
+  pub yes : r ≡ true → (k : ℕ) → k < i → at s k ≡ 0
+  pub no : r ≡ false → clearBytes s ≡ false
+
+pub clear-none : (s : List ℕ) → ClearTo s 0 true
+clear-none s = record { yes = λ e k h. absurd (omega arith); no = λ e. no-true (sym e) }
+
+pub clear-off : (s : List ℕ) (i : ℕ) → (at s i ≡ 0 → ⊥) → ClearTo s (i + 1) false
+clear-off s i n = record { yes = λ e. no-true e; no = λ e. not-clear s i n }
+
+pub clear-on : {s : List ℕ} {i : ℕ} {r : Bool} → ClearTo s i r → at s i ≡ 0 → ClearTo s (i + 1) r
+clear-on {s} {i} c z = record { yes = λ e. below-more (λ k. at s k ≡ 0) i (c .yes e) z; no = c .no }
+
+pub clear-end : {s : List ℕ} {i : ℕ} {r : Bool} → length s ≤ i → ClearTo s i r → r ≡ clearBytes s
+clear-end {s} {r = true} h c = sym (at-clear s (λ k l. c .yes refl k (omega arith)))
+clear-end {r = false} h c = sym (c .no refl)
 
 -- ---- a part of a buffer, from place a up to e
 

@@ -36,18 +36,17 @@ pub fn put_byte(s: &mut [u8], k: usize, b: u8)
     }
 }
 
-// Whether there is no byte but 0.
+// Whether there is no byte but 0. All are looked at, so that many can be at once.
 pub fn is_clear(part: &[u8]) -> bool
     ensures { λ r. ⌜ r ≡ clearBytes (now (part .entry)) ⌝ }
 {
-    let mut i = 0;
-    while i < part.len() {
+    let mut clear = true;
+    for i in 0..part.len() {
         if part[i] != 0 {
-            return false;
+            clear = false;
         }
-        i += 1;
     }
-    true
+    clear
 }
 
 pub fn clear(part: &mut [u8])
