@@ -5,4 +5,5 @@ mod judging_c; // judging_c.rt: the judge
 mod loading_c; // loading_c.rt: the two loads
 mod stepping_c; // stepping_c.rt: the step
 mod racing_c; // racing_c.rt: the race finder
+mod running_c; // running_c.rt: the two runs
 mod listing_c; // listing_c.rt: the lister

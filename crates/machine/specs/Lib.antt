@@ -19,3 +19,9 @@ pub mod Running
 pub mod Entering
 pub mod Around
 pub mod Public
+-- ---- the runs
+pub mod Numbers
+pub mod Calling
+pub mod RunCalls
+pub mod Lowest
+pub mod DefaultCalls

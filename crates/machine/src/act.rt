@@ -9,6 +9,15 @@ pub(crate) struct Card {
     pub locks: usize,
 }
 
+// The card of document 01.
+pub(crate) const SIXTEEN: Card = Card {
+    threads: 16,
+    thread_bytes: 2048,
+    cells: 64,
+    cell_bytes: 256,
+    locks: 32,
+};
+
 // What changes beside the thread. A value or a new thread is said by its place in the old thread's bytes, from and to.
 pub(crate) enum Also {
     Nothing,

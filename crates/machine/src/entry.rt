@@ -1,6 +1,6 @@
 // The public step, on the card of document 01.
 ghost use Rattle.machine.specs.Public.{Steps};
-use crate::act::Card;
+use crate::act::SIXTEEN;
 use crate::step::Step;
 use crate::step::step_held;
 
@@ -14,12 +14,5 @@ pub fn step(state: &mut [u8], thread: u64) -> Step
     if !states::is_state(state) {
         return Step::NoState;
     }
-    let card = Card {
-        threads: 16,
-        thread_bytes: 2048,
-        cells: 64,
-        cell_bytes: 256,
-        locks: 32,
-    };
-    step_held(state, thread, card)
+    step_held(state, thread, SIXTEEN)
 }

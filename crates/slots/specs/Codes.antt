@@ -1,9 +1,9 @@
 -- What each code of the erased form has, as tables by the code, which the byte functions and the functions of code look up alike: how many
 -- parts, how many bytes of its own before them, which part stands under a binder of it, where evaluation goes, and which codes are a
 -- value's (document 01, "The program image", "The running state"). Past 12 every table has its default.
-use mathlib.Core.Path.{_≡_, sym, subst}
+use mathlib.Core.Path.{_≡_, refl, sym, subst}
 use mathlib.Core.Bool.{Bool, true, false, _&&_}
-use mathlib.Core.List.{List, [], _∷_}
+use mathlib.Core.List.{List, [], _∷_, map}
 use Prim.Native.Nat.{ℕ, zero, suc, _<_, _≤_}
 use native.Mathlib.Omega.{arith}
 use lib.Dec.{T, leb, eqb, leb→le}
@@ -24,22 +24,20 @@ bind1Table = 0 ∷ 0 ∷ 0 ∷ 0 ∷ 1 ∷ 0 ∷ 0 ∷ 0 ∷ 0 ∷ 0 ∷ 1 ∷ 0
 abbrev pub bind2Table : List ℕ
 bind2Table = 0 ∷ 0 ∷ 0 ∷ 0 ∷ 0 ∷ 0 ∷ 0 ∷ 0 ∷ 0 ∷ 0 ∷ 0 ∷ 0 ∷ 1 ∷ 0 ∷ 0 ∷ 0 ∷ 0 ∷ 0 ∷ 0 ∷ []
 
--- whether evaluation goes into the first part, and into the second once the first is a value
-abbrev pub goes1Table : List Bool
-goes1Table =
-    false ∷ false ∷ false ∷ false ∷ false ∷ true ∷ true ∷ true ∷ true ∷ false ∷ false ∷ true ∷ true ∷ true ∷ true ∷ true
-    ∷ false ∷ false ∷ true ∷ []
+-- a table of yes and no, as 1 and 0
+abbrev answers : List ℕ → List Bool
+answers t = map (λ x. eqb x 1) t
 
-abbrev pub goes2Table : List Bool
-goes2Table =
-    false ∷ false ∷ false ∷ false ∷ false ∷ true ∷ false ∷ false ∷ true ∷ false ∷ false ∷ false ∷ false ∷ false ∷ true ∷ false
-    ∷ false ∷ false ∷ false ∷ []
+-- whether evaluation goes into the first part, and into the second once the first is a value
+abbrev pub goes1Table : List ℕ
+goes1Table = 0 ∷ 0 ∷ 0 ∷ 0 ∷ 0 ∷ 1 ∷ 1 ∷ 1 ∷ 1 ∷ 0 ∷ 0 ∷ 1 ∷ 1 ∷ 1 ∷ 1 ∷ 1 ∷ 0 ∷ 0 ∷ 1 ∷ []
+
+abbrev pub goes2Table : List ℕ
+goes2Table = 0 ∷ 0 ∷ 0 ∷ 0 ∷ 0 ∷ 1 ∷ 0 ∷ 0 ∷ 1 ∷ 0 ∷ 0 ∷ 0 ∷ 0 ∷ 0 ∷ 1 ∷ 0 ∷ 0 ∷ 0 ∷ 0 ∷ []
 
 -- "Values: 01, 02, 04, 10, 11."
-abbrev pub valueTable : List Bool
-valueTable =
-    false ∷ true ∷ true ∷ false ∷ true ∷ false ∷ false ∷ false ∷ false ∷ false ∷ false ∷ false ∷ false ∷ false ∷ false ∷ false
-    ∷ true ∷ true ∷ false ∷ []
+abbrev pub valueTable : List ℕ
+valueTable = 0 ∷ 1 ∷ 1 ∷ 0 ∷ 1 ∷ 0 ∷ 0 ∷ 0 ∷ 0 ∷ 0 ∷ 0 ∷ 0 ∷ 0 ∷ 0 ∷ 0 ∷ 0 ∷ 1 ∷ 1 ∷ 0 ∷ []
 
 unfoldable pub isCode : ℕ → Bool
 isCode c = leb 1 c && leb c 18
@@ -57,13 +55,13 @@ unfoldable pub bind2 : ℕ → ℕ
 bind2 c = getD bind2Table c 0
 
 unfoldable pub goes1 : ℕ → Bool
-goes1 c = getD goes1Table c false
+goes1 c = getD (answers goes1Table) c false
 
 unfoldable pub goes2 : ℕ → Bool
-goes2 c = getD goes2Table c false
+goes2 c = getD (answers goes2Table) c false
 
 unfoldable pub isValue : ℕ → Bool
-isValue c = getD valueTable c false
+isValue c = getD (answers valueTable) c false
 
 -- 1 for an open section
 unfoldable pub openOf : ℕ → ℕ
@@ -92,6 +90,13 @@ entry≤ : (b : ℕ) (xs : List ℕ) → T (all≤ b xs) → (k : ℕ) → getD 
 entry≤ b [] t k = omega arith
 entry≤ b (x ∷ xs) t zero = leb→le x b (and-left (leb x b) (all≤ b xs) t)
 entry≤ b (x ∷ xs) t (suc k) = entry≤ b xs (and-right (leb x b) (all≤ b xs) t) k
+
+-- ---- a table of yes and no
+
+pub ones : (t : List ℕ) (c : ℕ) → eqb (getD t c 0) 1 ≡ getD (answers t) c false
+ones [] c = refl
+ones (x ∷ t) zero = refl
+ones (x ∷ t) (suc c) = ones t c
 
 module _ (c : ℕ) where
   pub kids≤ : kidsOf c ≤ 3
@@ -153,12 +158,12 @@ module _ (c : ℕ) (h : 18 < c) where
 
   pub past-goes1 : goes1 c ≡ false
   unfolding goes1
-  past-goes1 = List·getD-eq-default goes1Table false h
+  past-goes1 = List·getD-eq-default (answers goes1Table) false h
 
   pub past-goes2 : goes2 c ≡ false
   unfolding goes2
-  past-goes2 = List·getD-eq-default goes2Table false h
+  past-goes2 = List·getD-eq-default (answers goes2Table) false h
 
   pub past-value : isValue c ≡ false
   unfolding isValue
-  past-value = List·getD-eq-default valueTable false h
+  past-value = List·getD-eq-default (answers valueTable) false h

@@ -1,21 +1,19 @@
 -- The table is `isValue`'s own.
-use mathlib.Core.Path.{refl, sym}
-use Rattle.slots.specs.Codes.{isValue, past-value}
+use mathlib.Core.Path.{sym}
+use Rattle.slots.specs.Codes.{valueTable, isValue, ones, past-value}
 use borrow.Author.Needs.{needs}
 use Rattle.slots.proofs.codes.value.Statement.{statement}
 use Rattle.slots.proofs.codes.value.Tie as tie
 
 returns : tie.Need-returns
-returns c =
-    let at-if1 = c in
-    sym (past-value _ (at-if1 .if1 .taken))
+returns c = sym (past-value _ (c .if1 .taken))
 
-array-read-result : tie.Need-array-read-result
-array-read-result c = search needs
+element-copy-out-result : tie.Need-element-copy-out-result
+element-copy-out-result c = search needs
 
 returns-2 : tie.Need-returns-2
 unfolding isValue
-returns-2 c = refl
+returns-2 c = ones valueTable (c .before .before .before .args .c)
 
 pub value-spec : {M : Type 1} → statement M
-value-spec = tie.close (tie.spec returns array-read-result returns-2)
+value-spec = tie.close (tie.spec returns element-copy-out-result returns-2)

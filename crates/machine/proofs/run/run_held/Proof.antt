@@ -1,0 +1,74 @@
+-- `CallsMade`, call after call.
+use mathlib.Core.Logic.{⊎-elim}
+use Prim.Native.Nat.{_-_}
+use Rattle.machine.specs.Acting.{cardOf}
+use Rattle.machine.specs.RunCalls.{CallsMade, calls-start, calls-stepped, calls-refused, calls-end}
+use borrow.Author.Needs.{needs}
+use Rattle.machine.proofs.run.run_held.Statement.{statement}
+use Rattle.machine.proofs.run.run_held.Tie as tie
+
+abbrev Inv-loop : tie.InvT-loop
+Inv-loop state₀ schedule card steps₀ last₀ n i₀ state steps last i = CallsMade (cardOf card) state₀ schedule i state steps last
+
+abbrev μ-loop : tie.MeasureT-loop
+μ-loop state₀ schedule card steps₀ last₀ n i₀ state steps last i = n - i
+
+loop-holds : tie.Need-loop-holds Inv-loop μ-loop
+loop-holds c =
+    let at-start = c .before .before in
+    calls-start (at-start .pre)
+
+byte-at-requires : tie.Need-byte-at-requires Inv-loop μ-loop
+byte-at-requires c κs = search needs
+
+cast-call : tie.Need-cast-call Inv-loop μ-loop
+cast-call c = search needs
+
+call-requires : tie.Need-call-requires Inv-loop μ-loop
+call-requires c κs =
+    let at-loop = c .before .before .before in
+    at-loop .loop .inv .held
+
+add-steps : tie.Need-add-steps Inv-loop μ-loop
+add-steps c = search needs
+
+add-i : tie.Need-add-i Inv-loop μ-loop
+add-i c = search needs
+
+loop-less : tie.Need-loop-less Inv-loop μ-loop
+loop-less c = search needs
+
+loop-again : tie.Need-loop-again Inv-loop μ-loop
+loop-again c =
+    let at-if1 = c in
+    let at-call = c .before .before .before in
+    let at-byte-at = c .before .before .before .before in
+    let at-loop-test = c .before .before .before .before .before .before in
+    let at-loop = c .before .before .before .before .before .before .before in
+    ⊎-elim (λ w. calls-stepped (at-loop .loop .inv) (at-loop-test .loop-test .taken) (at-byte-at .byte-at .ensures) (at-call .call .ensures) (at-call .call .kept .0) (w .0 .taken) (w .1)) (λ w. calls-refused (at-loop .loop .inv) (at-loop-test .loop-test .taken) (at-byte-at .byte-at .ensures) (at-call .call .ensures) (at-call .call .kept .0) (w .0 .left) (w .1)) (at-if1 .if1 .came)
+
+same-length : tie.Need-same-length Inv-loop μ-loop
+same-length c = search needs
+
+returns : tie.Need-returns Inv-loop μ-loop
+returns c =
+    let at-loop-test = c in
+    let at-loop = c .before in
+    calls-end (at-loop .loop .inv) (at-loop-test .loop-test .left)
+
+pub run-held-spec : {M : Type 1} → statement M
+run-held-spec =
+    tie.close
+    (tie.spec
+    Inv-loop
+    μ-loop
+    loop-holds
+    byte-at-requires
+    cast-call
+    call-requires
+    add-steps
+    add-i
+    loop-less
+    loop-again
+    same-length
+    returns)

@@ -1,0 +1,54 @@
+// "A run takes a schedule, one thread number a byte, makes every call, and reports how many stepped and the last answer (0 for an empty
+// schedule)." Calls on a short buffer or on bytes that are no state all answer the same and change nothing, so none of them is made.
+ghost use Rattle.paper.specs.States.{sixteen};
+ghost use Rattle.machine.specs.Acting.{cardOf};
+ghost use Rattle.machine.specs.Answering.{Held};
+ghost use Rattle.machine.specs.RunCalls.{Runs};
+use crate::act::Card;
+use crate::act::SIXTEEN;
+use crate::call::call;
+use crate::numbers::answer_of;
+use crate::step::Step;
+use plans::store::byte_at;
+
+pub struct Ran {
+    pub steps: usize,
+    pub last: u8,
+}
+
+fn run_held(state: &mut [u8], schedule: &[u8], card: Card) -> Ran
+    requires { ⌜ Held (cardOf card) (now state) ⌝ }
+    ensures { λ r. ⌜ Runs (cardOf card) (now (state .entry)) (now (schedule .entry)) (now (state .exit)) r ⌝ }
+{
+    let mut steps: usize = 0;
+    let mut last = 0;
+    let n = schedule.len();
+    for i in 0..n {
+        last = call(state, byte_at(schedule, i) as u64, card);
+        if last == 0 {
+            steps += 1;
+        }
+    }
+    Ran { steps, last }
+}
+
+pub fn run(state: &mut [u8], schedule: &[u8]) -> Ran
+    ensures { λ r. ⌜ Runs sixteen (now (state .entry)) (now (schedule .entry)) (now (state .exit)) r ⌝ }
+{
+    if schedule.len() == 0 {
+        return Ran { steps: 0, last: 0 };
+    }
+    if state.len() < 49408 {
+        return Ran {
+            steps: 0,
+            last: answer_of(Step::BufferShort),
+        };
+    }
+    if !states::is_state(state) {
+        return Ran {
+            steps: 0,
+            last: answer_of(Step::NoState),
+        };
+    }
+    run_held(state, schedule, SIXTEEN)
+}
