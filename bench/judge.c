@@ -9,9 +9,8 @@
 #include <string.h>
 #include <time.h>
 
-#include "plain/plain_judge.h"
-
-uint64_t laverockin_judge(const uint8_t *image, size_t n, uint8_t *types, size_t types_n, uint8_t *work, size_t work_n);
+#include "laverockin.h"
+#include "plain_judge.h"
 
 enum { IMAGES_MOST = 1000, IMAGE_BYTES = 4200, LINE_BYTES = 16384, TYPE_BYTES = 256, WORK_BYTES = 40960, ROUNDS = 25 };
 

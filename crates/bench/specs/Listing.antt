@@ -1,5 +1,5 @@
 -- The lister for C: the answer's number, and the code, its place and the place reached, each a word.
-use mathlib.Core.Path.{_≡_, refl, sym, ap, _∙_}
+use mathlib.Core.Path.{_≡_, sym, ap, _∙_}
 use mathlib.Core.List.{List}
 use Prim.Native.Nat.{ℕ}
 use Rattle.paper.specs.Calls.{listCall}

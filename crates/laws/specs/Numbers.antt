@@ -25,7 +25,7 @@ use Rattle.laws.specs.Good.{InRoom, good-whole, good-fits}
 use Rattle.laws.specs.Keeping.{Is, is, of, either, here-at}
 use Rattle.laws.specs.StateBytes.{state-holds}
 use Rattle.laws.specs.CallLaws.{step-short, step-foreign}
-use Rattle.laws.specs.RunLaws.{Buffer, call-says}
+use Rattle.laws.specs.RunLaws.{call-says}
 
 pub data SmallMove : Move → Type 0 where
   small-goes : {k n : ℕ} {e : Term} {c : Change} → k ≤ 12 → n < 64 → SmallMove (goes k n e c)

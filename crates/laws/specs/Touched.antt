@@ -3,7 +3,7 @@ use mathlib.Core.Path.{_≡_, refl, sym, ap, _∙_, subst}
 use mathlib.Core.Bool.{Bool, true, false, _&&_}
 use mathlib.Core.List.{List}
 use mathlib.Core.Option.{Option, none, some}
-use Prim.Native.Nat.{ℕ, _≤_, _<_}
+use Prim.Native.Nat.{ℕ, _<_}
 use native.Mathlib.Omega.{arith}
 use lib.ListN.{length, getD, List·getD-eq-default}
 use lib.Dec.{ltb}
@@ -11,16 +11,14 @@ use borrow.Author.Tests.{ltb-true, ltb-false}
 use Rattle.paper.specs.Base.{choose}
 use Rattle.paper.specs.Terms.{Term, value, asCell}
 use Rattle.paper.specs.Evaluation.{touches, plain, placed}
-use Rattle.paper.specs.States.{Card, State, total, good, Fits}
-use Rattle.paper.specs.StateOf.{stateOf}
+use Rattle.paper.specs.States.{Card, State, good, Fits}
 use Rattle.paper.specs.Runs.{Race, race}
 use Rattle.laws.specs.Tests.{none-some, split, split₃}
 use Rattle.laws.specs.Lists.{all-get}
 use Rattle.laws.specs.Values.{Value, v-unit, v-num, v-fun, v-lock, v-cell, is-value}
 use Rattle.laws.specs.Placed.{value-plain}
 use Rattle.laws.specs.Races.{Found, found, none-there, races}
-use Rattle.laws.specs.Good.{InRoom, good-whole, good-fits}
-use Rattle.laws.specs.Whole.{Whole}
+use Rattle.laws.specs.Good.{good-whole, good-fits}
 use Rattle.laws.specs.Keeping.{here-at}
 
 -- ---- the cell has been made

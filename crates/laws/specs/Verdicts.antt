@@ -92,7 +92,7 @@ module _ (s : List ℕ) where
   unfolding readImage
   long-wrong h = rw (either (ltb (length s) 3) (ltb 4096 (length s)) (not (eqb (word16 s 0 + 2) (length s))) (lt-ltb 4096 (length s) h))
 
-  long-refused : 4096 < length s → verdict s ≡ refused 2 0
+  pub long-refused : 4096 < length s → verdict s ≡ refused 2 0
   unfolding verdict
   long-refused h = rw (long-wrong h, verdict)
 

@@ -30,16 +30,16 @@ module _ (n : ℕ) (s : List ℕ) (i : ℕ) where
   unfolding numberFrom
   number-ends h = rw (drop-of-length-le s h)
 
-  pub number-off : i < length s → leb 48 (getD s i 0) && leb (getD s i 0) 57 && leb n 99999999 ≡ false
+  pub number-off : i < length s → leb 48 (getD s i 0) && leb (getD s i 0) 57 && leb (n * 10 + (getD s i 0 - 48)) 18446744073709551615 ≡ false
       → numberFrom n (drop i s) ≡ Unreadable
   unfolding numberFrom
   number-off h e = rw (drop-cons s i 0 h, e)
 
-  pub number-on : i < length s → 48 ≤ getD s i 0 → getD s i 0 ≤ 57 → n ≤ 99999999
+  pub number-on : i < length s → 48 ≤ getD s i 0 → getD s i 0 ≤ 57 → n * 10 + (getD s i 0 - 48) ≤ 18446744073709551615
       → numberFrom n (drop i s) ≡ numberFrom (n * 10 + (getD s i 0 - 48)) (drop (i + 1) s)
   unfolding numberFrom
   number-on h a b l =
-      rw (drop-cons s i 0 h, le-leb 48 (getD s i 0) a, le-leb (getD s i 0) 57 b, le-leb n 99999999 l, add-one)
+      rw (drop-cons s i 0 h, le-leb 48 (getD s i 0) a, le-leb (getD s i 0) 57 b, le-leb (n * 10 + (getD s i 0 - 48)) 18446744073709551615 l, add-one)
 
 module _ (s : List ℕ) (i : ℕ) where
   pub digits-end : length s ≤ i → allDigits (drop i s) ≡ true

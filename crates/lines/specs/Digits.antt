@@ -13,11 +13,11 @@ abbrev pub choose {ℓ} : {X : Type ℓ} → Bool → (Unit {0} → X) → (Unit
 choose true x y = x tt
 choose false x y = y tt
 
--- the number that the decimal digits s spell after digits that spell n
+-- the number that the decimal digits s spell after digits that spell n, where it has 64 bits
 unfoldable pub numberFrom : ℕ → List ℕ → Number
 numberFrom n [] = Is n
 numberFrom n (d ∷ s) =
-    choose (leb 48 d && leb d 57 && leb n 99999999) (λ _. numberFrom (n * 10 + (d - 48)) s) (λ _. Unreadable)
+    choose (leb 48 d && leb d 57 && leb (n * 10 + (d - 48)) 18446744073709551615) (λ _. numberFrom (n * 10 + (d - 48)) s) (λ _. Unreadable)
 
 unfoldable pub numberOf : List ℕ → Number
 numberOf [] = Unreadable

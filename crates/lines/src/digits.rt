@@ -10,7 +10,7 @@ pub enum Number {
     Unreadable,
 }
 
-// A number below a thousand million; leading zeros are taken.
+// A number of 64 bits; leading zeros are taken.
 pub fn decimal(s: &[u8]) -> Number
     ensures { λ r. ⌜ r ≡ numberOf (now (s .entry)) ⌝ }
 {
@@ -27,7 +27,10 @@ pub fn decimal(s: &[u8]) -> Number
         if 57 < d {
             return Number::Unreadable;
         }
-        if 99999999 < n {
+        if 1844674407370955161 < n {
+            return Number::Unreadable;
+        }
+        if 18446744073709551615 - n * 10 < d - 48 {
             return Number::Unreadable;
         }
         n = n * 10 + (d - 48);

@@ -1,5 +1,5 @@
 -- The step of the lowest-numbered thread that can, on a buffer that holds a state: its contract, and one law for each way of its loop.
-use mathlib.Core.Path.{_≡_, sym, ap, _∙_, subst}
+use mathlib.Core.Path.{_≡_, refl, sym, ap, _∙_, subst}
 use mathlib.Core.Bool.{Bool, true, false}
 use mathlib.Core.List.{List}
 use mathlib.Core.Option.{Option, none, some}
@@ -60,7 +60,7 @@ pub seeking-start : {card : Card} {before : List ℕ} → Held card before → S
 unfolding lowest
 seeking-start {card} {before} h = record {
   held = h;
-  same = λ _. before;
+  same = refl;
   rest = λ w. ap (firstOf card (w .held) 0) (omega (arith, threads-read card (w .fits) before (w .held) (w .holds)));
 }
 

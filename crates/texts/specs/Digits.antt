@@ -76,6 +76,15 @@ pub three-ended : (a b c : ℕ) → three a b c ≡ ended a 32 ++ (ended b 32 ++
 unfolding three
 three-ended a b c = simp append-assoc
 
+-- a line of three numbers of two digits
+pub three-length : (a b c : ℕ) → a < 100 → b < 100 → c < 100 → length (three a b c) ≤ 9
+three-length a b c h k l =
+    let x = decimal-length 1 a h in
+    let y = decimal-length 1 b k in
+    let z = decimal-length 1 c l in
+    let e = ap length (three-ended a b c) in
+    omega (arith, length-append (ended a 32) (ended b 32 ++ ended c 10), length-append (ended b 32) (ended c 10), length-append (decimal a) (32 ∷ []), length-append (decimal b) (32 ∷ []), length-append (decimal c) (10 ∷ []))
+
 -- ---- hex
 
 pub hex-length : (s : List ℕ) → length (hex s) ≡ length s * 2

@@ -1,24 +1,22 @@
-use crate::lines;
-use judging::entry::Verdict;
+use crate::judged::judge_line;
 ghost use Rattle.texts.specs.JudgeText.{JudgeTexts};
 
-// What a function that writes a text answers: its length, or that the lent buffer is too short for the longest.
+// What a function that writes a text answers: its length, or that a lent buffer is too short.
 pub enum Text {
     Written(usize),
     ShortBuffer,
 }
 
 // The judge's line for an image, first in the lent buffer.
-pub fn judge_text(image: &[u8], out: &mut [u8]) -> Text
-    ensures { λ r. ⌜ JudgeTexts (now (image .entry)) (now (out .entry)) r (now (out .exit)) ⌝ }
+pub fn judge_text(image: &[u8], work: &mut [u8], out: &mut [u8]) -> Text
+    ensures { λ r. ⌜ JudgeTexts (now (image .entry)) (now (work .entry)) (now (out .entry)) r (now (work .exit)) (now (out .exit)) ⌝ }
 {
+    if work.len() < 40960 {
+        return Text::ShortBuffer;
+    }
     if out.len() < 520 {
         return Text::ShortBuffer;
     }
-    let mut types = [0u8; 256];
-    let mut work = [0u8; 40960];
-    match judging::entry::judge(image, &mut types, &mut work) {
-        Verdict::Accepted(n) => Text::Written(lines::accept_line(&types[..n], out, 0)),
-        Verdict::Refused(number, place) => Text::Written(lines::refuse_line(number, place, out, 0)),
-    }
+    let line = judge_line(image, work, out);
+    Text::Written(line.end)
 }

@@ -14,16 +14,16 @@ pub record Exactly (r : Bool) (P : Type 0) : Type 0 where
 abbrev pub Filled : ℕ → List ℕ → Type 0
 Filled b s = (k : ℕ) → k < length s → getD s k 0 ≡ b
 
--- the first 40,960 bytes are zero, the rest as it was filled
-pub record Cleared (work : List ℕ) : Type 0 where
-  pub long : 40960 ≤ length work
-  pub zero : (k : ℕ) → k < 40960 → getD work k 0 ≡ 0
-  pub rest : (k : ℕ) → 40960 ≤ k → k < length work → getD work k 0 ≡ 165
+-- the first bytes are zero, the rest as it was filled
+pub record Cleared (size : ℕ) (s : List ℕ) : Type 0 where
+  pub long : size ≤ length s
+  pub zero : (k : ℕ) → k < size → getD s k 0 ≡ 0
+  pub rest : (k : ℕ) → size ≤ k → k < length s → getD s k 0 ≡ 165
 
 pub record AsDue (verdict due : Verdict) (types dueTypes work : List ℕ) : Type 0 where
   pub answer : verdict ≡ due
   pub types-due : types ≡ dueTypes
-  pub work-due : Cleared work
+  pub work-due : Cleared 40960 work
 
 pub record LoadAsDue (verdict due : Verdict) (kept : List ℕ) : Type 0 where
   pub answer : verdict ≡ due

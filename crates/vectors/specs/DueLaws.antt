@@ -41,33 +41,33 @@ module _ (a b : Verdict) where
 pub fails : {P Q : Type 0} {r : Bool} → Exactly r P → r ≡ false → (Q → P) → Exactly false Q
 fails x e part = not-so (λ q. let t : _ ≡ true = x .always (part q) in let z : _≡_ {A = ℕ} 0 1 = cc in omega arith)
 
-module _ (work : List ℕ) (long : 40960 ≤ length work) where
-  rest-whole : take (length work - 40960) (drop 40960 work) ≡ drop 40960 work
-  rest-whole = take-all (length work - 40960) (drop 40960 work) (simp length-drop (omega arith))
+module _ (size : ℕ) (s : List ℕ) (long : size ≤ length s) where
+  rest-whole : take (length s - size) (drop size s) ≡ drop size s
+  rest-whole = take-all (length s - size) (drop size s) (simp length-drop (omega arith))
 
-  pub cleared-rest : {r : Bool} → Filled 0 (take 40960 work) → Exactly r (Filled 165 (take (length work - 40960) (drop 40960 work)))
-      → Exactly r (Cleared work)
+  pub cleared-rest : {r : Bool} → Filled 0 (take size s) → Exactly r (Filled 165 (take (length s - size) (drop size s)))
+      → Exactly r (Cleared size s)
   cleared-rest {r} z y =
-      let x : Exactly r (Filled 165 (drop 40960 work)) = rw rest-whole at y in
+      let x : Exactly r (Filled 165 (drop size s)) = rw rest-whole at y in
       record {
         only = λ h. record {
           long = long;
-          zero = λ k l. sym (getD-take 40960 work k 0 l) ∙ z k (simp length-take (omega arith));
+          zero = λ k l. sym (getD-take size s k 0 l) ∙ z k (simp length-take (omega arith));
           rest = λ k a l.
-              let e : 40960 + (k - 40960) ≡ k = omega arith in
-              ap (λ (i : ℕ). getD work i 0) (sym e) ∙ sym (getD-drop 40960 work (k - 40960) 0)
-              ∙ x .only h (k - 40960) (simp length-drop (omega arith));
+              let e : size + (k - size) ≡ k = omega arith in
+              ap (λ (i : ℕ). getD s i 0) (sym e) ∙ sym (getD-drop size s (k - size) 0)
+              ∙ x .only h (k - size) (simp length-drop (omega arith));
         };
-        always = λ d. x .always (λ k l. getD-drop 40960 work k 0 ∙ d .rest (40960 + k) (omega arith) (omega (arith, simp length-drop at l)));
+        always = λ d. x .always (λ k l. getD-drop size s k 0 ∙ d .rest (size + k) (omega arith) (omega (arith, simp length-drop at l)));
       }
 
-  pub front-long : 40960 ≡ length (take 40960 work)
-  front-long = sym (length-take-le 40960 work long)
+  pub front-long : size ≡ length (take size s)
+  front-long = sym (length-take-le size s long)
 
-  pub cleared-zero : Cleared work → Filled 0 (take 40960 work)
-  cleared-zero d k l = let m : k < 40960 = omega (arith, simp length-take at l) in getD-take 40960 work k 0 m ∙ d .zero k m
+  pub cleared-zero : Cleared size s → Filled 0 (take size s)
+  cleared-zero d k l = let m : k < size = omega (arith, simp length-take at l) in getD-take size s k 0 m ∙ d .zero k m
 
-pub due-rest : (v d : Verdict) (t e w : List ℕ) {r : Bool} → v ≡ d → t ≡ e → Exactly r (Cleared w) → Exactly r (AsDue v d t e w)
+pub due-rest : (v d : Verdict) (t e w : List ℕ) {r : Bool} → v ≡ d → t ≡ e → Exactly r (Cleared 40960 w) → Exactly r (AsDue v d t e w)
 due-rest v d t e w a b x =
     record { only = λ h. record { answer = a; types-due = b; work-due = x .only h }; always = λ q. x .always (q .work-due) }
 

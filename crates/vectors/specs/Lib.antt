@@ -1,2 +1,4 @@
 pub mod Due
 pub mod DueLaws
+pub mod Rows
+pub mod RowLaws

@@ -1,10 +1,12 @@
 // The comparisons. Each answers true exactly where everything is as due, so that a vector can fail.
+use crate::buffers::PATTERN;
 use judging::entry::Verdict;
 ghost use mathlib.Core.Path.{_≡_};
 ghost use Rattle.vectors.specs.Due.{Exactly, Filled, Cleared, AsDue, LoadAsDue, Untouched};
 
-// What every lent buffer is filled with before a call.
-pub(crate) const PATTERN: u8 = 165;
+pub(crate) const WORK_BYTES: usize = 40960;
+
+pub(crate) const STATE_BYTES: usize = 49408;
 
 // The image of a line, in the buffer that it was read into.
 pub(crate) fn first(s: &[u8], n: usize) -> &[u8] {
@@ -27,15 +29,15 @@ pub(crate) fn filled(s: &[u8], b: u8) -> bool
     true
 }
 
-// The work buffer after every answer but 1.
-pub(crate) fn cleared(work: &[u8]) -> bool
-    ensures { λ r. ⌜ Exactly r (Cleared (now (work .entry))) ⌝ }
+// The first bytes zero, the rest as it was filled: the work buffer after every answer but 1.
+pub(crate) fn cleared(buffer: &[u8], size: usize) -> bool
+    ensures { λ r. ⌜ Exactly r (Cleared size (now (buffer .entry))) ⌝ }
 {
-    if work.len() < 40960 {
+    if buffer.len() < size {
         return false;
     }
-    if filled(&work[..40960], 0) {
-        return filled(&work[40960..], PATTERN);
+    if filled(&buffer[..size], 0) {
+        return filled(&buffer[size..], PATTERN);
     }
     false
 }
@@ -71,7 +73,7 @@ pub(crate) fn as_due(
 {
     if equal(verdict, due) {
         if check::same(types, expected) {
-            return cleared(work);
+            return cleared(work, WORK_BYTES);
         }
     }
     false

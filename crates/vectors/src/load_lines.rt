@@ -1,22 +1,21 @@
 // The lines of the loads: `L image answer place` (raw) and `C image answer place -` (judged), where answer 0 is loaded.
+use crate::buffers;
 use crate::due;
-use crate::due::PATTERN;
+use crate::fields::field;
+use crate::fields::numbers;
+use crate::fields::rest;
 use crate::reports::Outcome;
 use crate::reports::outcome_of;
 use judging::entry::Verdict;
-use lines::cut::BLANK;
-use lines::cut::after;
-use lines::cut::before;
 use lines::digits::Number;
 use lines::digits::bytes;
-use lines::digits::decimal;
 use loads::entry::Loaded;
 use loads::entry::judged_load;
 use loads::entry::raw_load;
 
-// What a line says: how long its image is, and the answer that is due.
+// What the fields after the image say: the answer that is due.
 enum Said {
-    Due(usize, Verdict),
+    Due(Verdict),
     Nothing,
 }
 
@@ -28,33 +27,22 @@ fn verdict_of(loaded: Loaded) -> Verdict {
     }
 }
 
-fn due_is(answer: usize, place: usize, length: usize) -> Said {
+fn due_is(answer: usize, place: usize) -> Said {
     if answer == 0 {
-        return Said::Due(length, Verdict::Accepted(place));
+        return Said::Due(Verdict::Accepted(place));
     }
     if answer < 256 {
-        return Said::Due(length, Verdict::Refused(answer as u8, place));
+        return Said::Due(Verdict::Refused(answer as u8, place));
     }
     Said::Nothing
 }
 
-fn read_due(fields: &[u8], length: usize) -> Said {
-    let Number::Is(answer) = decimal(before(fields, BLANK)) else {
-        return Said::Nothing;
-    };
-    let Number::Is(place) = decimal(before(after(fields, BLANK), BLANK)) else {
-        return Said::Nothing;
-    };
-    due_is(answer, place, length)
-}
-
-// Puts the image's bytes first into image.
-fn read_line(line: &[u8], image: &mut [u8]) -> Said {
-    let fields = after(line, BLANK);
-    match bytes(before(fields, BLANK), image) {
-        Number::Is(length) => read_due(after(fields, BLANK), length),
-        Number::Unreadable => Said::Nothing,
+fn read_due(fields: &[u8]) -> Said {
+    let mut n = [0usize; 2];
+    if numbers(fields, &mut n) {
+        return due_is(n[0], n[1]);
     }
+    Said::Nothing
 }
 
 // What a load may not touch: all of the buffer at a refusal, else what lies past the state.
@@ -72,26 +60,42 @@ fn past_state(state: &[u8]) -> &[u8] {
     &state[49408..]
 }
 
-pub(crate) fn raw(line: &[u8]) -> Outcome {
-    let mut image = [0u8; 5000];
-    let Said::Due(n, due) = read_line(line, &mut image) else {
-        return Outcome::Unreadable;
-    };
-    let mut state = [PATTERN; 49500];
-    let verdict = verdict_of(raw_load(due::first(&image, n), &mut state));
+fn raw_on(image: &[u8], due: Verdict) -> Outcome {
+    let mut state = buffers::state();
+    let verdict = verdict_of(raw_load(image, &mut state));
     outcome_of(due::load_as_due(verdict, due, kept(due, &state)))
 }
 
-pub(crate) fn judged(line: &[u8]) -> Outcome {
-    let mut image = [0u8; 5000];
-    let Said::Due(n, due) = read_line(line, &mut image) else {
+pub(crate) fn raw(line: &[u8]) -> Outcome {
+    let fields = rest(line);
+    let Said::Due(due) = read_due(rest(fields)) else {
         return Outcome::Unreadable;
     };
-    let mut state = [PATTERN; 49500];
-    let mut work = [PATTERN; 41000];
-    let verdict = verdict_of(judged_load(due::first(&image, n), &mut state, &mut work));
-    if due::cleared(&work) {
+    let mut image = buffers::image();
+    let Number::Is(n) = bytes(field(fields), &mut image) else {
+        return Outcome::Unreadable;
+    };
+    raw_on(due::first(&image, n), due)
+}
+
+fn judged_on(image: &[u8], due: Verdict) -> Outcome {
+    let mut state = buffers::state();
+    let mut work = buffers::work();
+    let verdict = verdict_of(judged_load(image, &mut state, &mut work));
+    if due::cleared(&work, due::WORK_BYTES) {
         return outcome_of(due::load_as_due(verdict, due, kept(due, &state)));
     }
     Outcome::Failed
+}
+
+pub(crate) fn judged(line: &[u8]) -> Outcome {
+    let fields = rest(line);
+    let Said::Due(due) = read_due(rest(fields)) else {
+        return Outcome::Unreadable;
+    };
+    let mut image = buffers::image();
+    let Number::Is(n) = bytes(field(fields), &mut image) else {
+        return Outcome::Unreadable;
+    };
+    judged_on(due::first(&image, n), due)
 }

@@ -1,13 +1,12 @@
 // What is printed, and the counts by kind.
 use libc::STDOUT_FILENO;
 
-const KINDS: usize = 5;
+const KINDS: usize = 9;
 
 pub(crate) enum Outcome {
     Passed,
     Failed,
     Unreadable,
-    LeftOut,
 }
 
 pub(crate) fn outcome_of(passed: bool) -> Outcome {
@@ -18,14 +17,45 @@ pub(crate) fn outcome_of(passed: bool) -> Outcome {
     }
 }
 
+// Two tries of one line: what the first was, unless it passed.
+pub(crate) fn both(first: Outcome, second: Outcome) -> Outcome {
+    match first {
+        Outcome::Passed => second,
+        Outcome::Failed => Outcome::Failed,
+        Outcome::Unreadable => Outcome::Unreadable,
+    }
+}
+
 // Stops at a million, which no input reaches: every number fits.
 pub(crate) fn more(n: usize) -> usize {
     if n < 1000000 { n + 1 } else { n }
 }
 
-pub(crate) fn add(counts: &mut [usize], kind: usize) {
-    if kind < counts.len() {
-        counts[kind] = more(counts[kind]);
+// Where a kind is counted, by which: 0 run, 1 failed. Past all counts where there is no such kind.
+fn place(which: usize, kind: usize) -> usize {
+    if which < 2 {
+        if kind < KINDS {
+            return KINDS * which + kind;
+        }
+    }
+    2 * KINDS
+}
+
+fn add(counts: &mut [usize], which: usize, kind: usize) {
+    let k = place(which, kind);
+    if k < counts.len() {
+        counts[k] = more(counts[k]);
+    }
+}
+
+pub(crate) fn count(counts: &mut [usize], kind: usize, outcome: Outcome) {
+    match outcome {
+        Outcome::Passed => add(counts, 0, kind),
+        Outcome::Failed => {
+            add(counts, 0, kind);
+            add(counts, 1, kind);
+        }
+        Outcome::Unreadable => {}
     }
 }
 
@@ -34,23 +64,31 @@ fn print(text: &[u8]) {
 }
 
 fn print_kind(kind: usize) {
-    let letters: &[u8] = b"JLCNP";
+    let letters: &[u8] = b"JLCNPTRQD";
     if kind < letters.len() {
         print(&letters[kind..kind + 1]);
     }
 }
 
-pub(crate) fn vector(kind: usize, number: usize, verdict: &[u8]) {
+fn print_vector(kind: usize, number: usize, verdict: &[u8]) {
     print_kind(kind);
     print(b" ");
     io::print_decimal(STDOUT_FILENO, number as u64);
     print(verdict);
 }
 
-pub(crate) fn unreadable(number: usize) {
+fn print_unreadable(number: usize) {
     print(b"line ");
     io::print_decimal(STDOUT_FILENO, number as u64);
     print(b" unreadable\n");
+}
+
+pub(crate) fn vector(kind: usize, number: usize, outcome: Outcome) {
+    match outcome {
+        Outcome::Passed => print_vector(kind, number, b" ok\n"),
+        Outcome::Failed => print_vector(kind, number, b" FAIL\n"),
+        Outcome::Unreadable => print_unreadable(number),
+    }
 }
 
 pub(crate) fn too_long() {
@@ -63,51 +101,27 @@ pub(crate) fn short(what: &[u8], outcome: Outcome) {
         Outcome::Passed => print(b" ok\n"),
         Outcome::Failed => print(b" FAIL\n"),
         Outcome::Unreadable => print(b" unreadable\n"),
-        Outcome::LeftOut => print(b" left out\n"),
     }
 }
 
-fn count_of(counts: &[usize], kind: usize) -> usize {
-    if kind < counts.len() { counts[kind] } else { 0 }
-}
-
-fn print_count(n: usize, kind: usize) {
-    io::print_decimal(STDOUT_FILENO, n as u64);
-    print(b" ");
-    print_kind(kind);
+fn count_of(counts: &[usize], which: usize, kind: usize) -> usize {
+    let k = place(which, kind);
+    if k < counts.len() { counts[k] } else { 0 }
 }
 
 fn print_run(kind: usize, done: usize, failed: usize) {
     if 0 < done {
-        print_count(done, kind);
+        io::print_decimal(STDOUT_FILENO, done as u64);
+        print(b" ");
+        print_kind(kind);
         print(b" run, ");
         io::print_decimal(STDOUT_FILENO, failed as u64);
         print(b" failed\n");
     }
 }
 
-fn print_left(kind: usize, left: usize) {
-    if 0 < left {
-        print(b" ");
-        print_count(left, kind);
-    }
-}
-
-fn print_runs(done: &[usize], failed: &[usize]) {
+pub(crate) fn summary(counts: &[usize]) {
     for kind in 0..KINDS {
-        print_run(kind, count_of(done, kind), count_of(failed, kind));
+        print_run(kind, count_of(counts, 0, kind), count_of(counts, 1, kind));
     }
-}
-
-fn print_all_left(left: &[usize]) {
-    for kind in 0..KINDS {
-        print_left(kind, count_of(left, kind));
-    }
-}
-
-pub(crate) fn summary(done: &[usize], failed: &[usize], left: &[usize]) {
-    print_runs(done, failed);
-    print(b"left out:");
-    print_all_left(left);
-    print(b"\n");
 }

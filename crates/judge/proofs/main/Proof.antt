@@ -21,6 +21,9 @@ slice-aggregate-judge-text c = search needs
 slice-aggregate-judge-text-2 : tie.Need-slice-aggregate-judge-text-2
 slice-aggregate-judge-text-2 c = search needs
 
+slice-aggregate-judge-text-3 : tie.Need-slice-aggregate-judge-text-3
+slice-aggregate-judge-text-3 c = search needs
+
 judge-text-requires : tie.Need-judge-text-requires
 judge-text-requires c κs = search needs
 
@@ -30,14 +33,14 @@ enum-known-end c = search needs
 array-share-prefix-line : tie.Need-array-share-prefix-line
 array-share-prefix-line c =
     let at-end = c .before in
-    let at-judge-text = c .before .before .before .before in
+    let at-judge-text = c .before .before .before .before .before in
     (written (at-judge-text .judge-text .ensures) (at-end .end .given .1)) .inside
 
 slice-aggregate-write-all : tie.Need-slice-aggregate-write-all
 slice-aggregate-write-all c =
     let at-end = c .before .before in
-    let at-judge-text = c .before .before .before .before .before in
-    sym (length-take-le (at-end .end .given .0 .0) (at-judge-text .judge-text .last .1 .0) ((written (at-judge-text .judge-text .ensures) (at-end .end .given .1)) .inside))
+    let at-judge-text = c .before .before .before .before .before .before in
+    sym (length-take-le (at-end .end .given .0 .0) (at-judge-text .judge-text .last .1 .1 .0) ((written (at-judge-text .judge-text .ensures) (at-end .end .given .1)) .inside))
 
 write-all-requires : tie.Need-write-all-requires
 write-all-requires c κs = search needs
@@ -60,6 +63,7 @@ main-spec =
     array-share-prefix-image
     slice-aggregate-judge-text
     slice-aggregate-judge-text-2
+    slice-aggregate-judge-text-3
     judge-text-requires
     enum-known-end
     array-share-prefix-line

@@ -1,4 +1,4 @@
--- The counts keep their lengths; each line is passed with its end.
+-- The counts keep their length; each line is passed with its end.
 use Prim.Native.Nat.{_-_}
 use native.Mathlib.Omega.{arith}
 use mathlib.Core.Path.{_≡_, ap}
@@ -9,11 +9,10 @@ use Rattle.vectors.proofs.run_all.Statement.{statement}
 use Rattle.vectors.proofs.run_all.Tie as tie
 
 abbrev Inv-loop : tie.InvT-loop
-Inv-loop s done₀ failed₀ left₀ number₀ at₀ done failed left number at =
-    (5 ≡ length done) × (5 ≡ length failed) × (5 ≡ length left)
+Inv-loop s counts₀ number₀ at₀ counts number at = 18 ≡ length counts
 
 abbrev μ-loop : tie.MeasureT-loop
-μ-loop s done₀ failed₀ left₀ number₀ at₀ done failed left number at = length s - at
+μ-loop s counts₀ number₀ at₀ counts number at = length s - at
 
 loop-holds : tie.Need-loop-holds Inv-loop μ-loop
 loop-holds c = search needs
@@ -36,39 +35,33 @@ more-requires c κs = search needs
 slice-aggregate-one : tie.Need-slice-aggregate-one Inv-loop μ-loop
 slice-aggregate-one c = search needs
 
-slice-aggregate-one-2 : tie.Need-slice-aggregate-one-2 Inv-loop μ-loop
-slice-aggregate-one-2 c = search needs
-
-slice-aggregate-one-3 : tie.Need-slice-aggregate-one-3 Inv-loop μ-loop
-slice-aggregate-one-3 c = search needs
-
 one-requires : tie.Need-one-requires Inv-loop μ-loop
 one-requires c κs = search needs
 
 add-at : tie.Need-add-at Inv-loop μ-loop
 add-at c =
-    let s = c .before .before .before .before .before .before .before .before .before .before .before .before .before .args .s .now in
-    let at = c .before .before .before .before .before .before .before .before .before .before .before .loop .at in
-    let before2 = c .before .before .before .before .before .before .before .before .before2 in
-    let loop-test = c .before .before .before .before .before .before .before .before .before .before .loop-test in
-    let good = c .before .before .before .before .before .before .before .before .before .before .before .before .before .good in
+    let s = c .before .before .before .before .before .before .before .before .before .args .s .now in
+    let at = c .before .before .before .before .before .before .before .loop .at in
+    let before2 = c .before .before .before .before .before2 in
+    let loop-test = c .before .before .before .before .before .before .loop-test in
+    let good = c .before .before .before .before .before .before .before .before .before .good in
     omega (arith, ap length (before2 .ensures), before-short 10 s at, loop-test .taken, good)
 
 add-at-2 : tie.Need-add-at-2 Inv-loop μ-loop
 add-at-2 c =
-    let s = c .before .before .before .before .before .before .before .before .before .before .before .before .before .args .s .now in
-    let at = c .before .before .before .before .before .before .before .before .before .before .before .loop .at in
-    let before2 = c .before .before .before .before .before .before .before .before .before2 in
-    let loop-test = c .before .before .before .before .before .before .before .before .before .before .loop-test in
-    let good = c .before .before .before .before .before .before .before .before .before .before .before .before .before .good in
+    let s = c .before .before .before .before .before .before .before .before .before .args .s .now in
+    let at = c .before .before .before .before .before .before .before .loop .at in
+    let before2 = c .before .before .before .before .before2 in
+    let loop-test = c .before .before .before .before .before .before .loop-test in
+    let good = c .before .before .before .before .before .before .before .before .before .good in
     omega (arith, ap length (before2 .ensures), before-short 10 s at, loop-test .taken, good)
 
 loop-less : tie.Need-loop-less Inv-loop μ-loop
 loop-less c =
-    let s = c .before .before .before .before .before .before .before .before .before .before .before .before .before .args .s .now in
-    let at = c .before .before .before .before .before .before .before .before .before .before .before .loop .at in
-    let before2 = c .before .before .before .before .before .before .before .before .before2 in
-    let loop-test = c .before .before .before .before .before .before .before .before .before .before .loop-test in
+    let s = c .before .before .before .before .before .before .before .before .before .args .s .now in
+    let at = c .before .before .before .before .before .before .before .loop .at in
+    let before2 = c .before .before .before .before .before2 in
+    let loop-test = c .before .before .before .before .before .before .loop-test in
     omega (arith, ap length (before2 .ensures), before-short 10 s at, loop-test .taken)
 
 loop-again : tie.Need-loop-again Inv-loop μ-loop
@@ -82,12 +75,6 @@ short-buffers-requires c κs = search needs
 
 slice-aggregate-summary : tie.Need-slice-aggregate-summary Inv-loop μ-loop
 slice-aggregate-summary c = search needs
-
-slice-aggregate-summary-2 : tie.Need-slice-aggregate-summary-2 Inv-loop μ-loop
-slice-aggregate-summary-2 c = search needs
-
-slice-aggregate-summary-3 : tie.Need-slice-aggregate-summary-3 Inv-loop μ-loop
-slice-aggregate-summary-3 c = search needs
 
 summary-requires : tie.Need-summary-requires Inv-loop μ-loop
 summary-requires c κs = search needs
@@ -108,8 +95,6 @@ run-all-spec =
     before-requires
     more-requires
     slice-aggregate-one
-    slice-aggregate-one-2
-    slice-aggregate-one-3
     one-requires
     add-at
     add-at-2
@@ -118,7 +103,5 @@ run-all-spec =
     before-requires-2
     short-buffers-requires
     slice-aggregate-summary
-    slice-aggregate-summary-2
-    slice-aggregate-summary-3
     summary-requires
     returns)

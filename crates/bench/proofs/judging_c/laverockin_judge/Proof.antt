@@ -1,5 +1,5 @@
 -- The judge says all but the packing, and its parts are small.
-use mathlib.Core.Path.{_≡_, sym, ap, _∙_, subst}
+use mathlib.Core.Path.{sym, ap, _∙_, subst}
 use Rattle.bench.specs.Judging.{packed, Fits, call-fits}
 use borrow.Author.Needs.{needs}
 use Rattle.bench.proofs.judging_c.laverockin_judge.Statement.{statement}

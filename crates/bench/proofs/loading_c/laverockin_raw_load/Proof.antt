@@ -1,5 +1,5 @@
 -- The load says all but the packing, and its place is small.
-use mathlib.Core.Path.{_≡_, sym, ap, _∙_, subst}
+use mathlib.Core.Path.{sym, ap, _∙_, subst}
 use Rattle.bench.specs.Loading.{packed, Fits, raw-call-fits}
 use borrow.Author.Needs.{needs}
 use Rattle.bench.proofs.loading_c.laverockin_raw_load.Statement.{statement}

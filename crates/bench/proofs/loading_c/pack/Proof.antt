@@ -1,5 +1,5 @@
 -- A place is small, which is what it requires.
-use mathlib.Core.Path.{_≡_, refl, sym, ap, _∙_, subst}
+use mathlib.Core.Path.{sym, ap, _∙_, subst}
 use native.Mathlib.Omega.{arith}
 use Rattle.loads.specs.Contract.{said}
 use Rattle.bench.specs.Loading.{packed, Fits}

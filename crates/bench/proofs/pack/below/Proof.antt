@@ -1,5 +1,4 @@
 -- The rest has room above eight bits, which is what it requires.
-use native.Mathlib.Omega.{arith}
 use Rattle.bench.specs.Packing.{packs}
 use borrow.Author.Needs.{needs}
 use Rattle.bench.proofs.pack.below.Statement.{statement}

@@ -1,5 +1,5 @@
 -- The race finder says all but the packing, and its parts are small.
-use mathlib.Core.Path.{_≡_, sym, ap, _∙_, subst}
+use mathlib.Core.Path.{sym, ap, _∙_, subst}
 use Rattle.bench.specs.Racing.{packed, Fits, call-fits}
 use borrow.Author.Needs.{needs}
 use Rattle.bench.proofs.racing_c.laverockin_race.Statement.{statement}

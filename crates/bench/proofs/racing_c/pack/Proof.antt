@@ -1,5 +1,5 @@
 -- Threads and a cell are small, which is what it requires.
-use mathlib.Core.Path.{_≡_, refl, sym, ap, _∙_, subst}
+use mathlib.Core.Path.{refl, sym, ap, _∙_, subst}
 use native.Mathlib.Omega.{arith}
 use Rattle.paper.specs.Cases.{toldRace}
 use Rattle.states.specs.RaceIs.{caseOf}

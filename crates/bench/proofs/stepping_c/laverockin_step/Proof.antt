@@ -1,5 +1,5 @@
 -- The step says all but the packing, and its parts are small.
-use mathlib.Core.Path.{_≡_, sym, ap, _∙_, subst}
+use mathlib.Core.Path.{sym, ap, _∙_, subst}
 use Rattle.paper.specs.Calls.{StepCall}
 use Rattle.laws.specs.Cards.{sixteen-fits}
 use Rattle.laws.specs.Numbers.{Small, call-small}

@@ -1,5 +1,5 @@
 -- A kind and a number are small, which is what it requires.
-use mathlib.Core.Path.{_≡_, refl, sym, ap, _∙_, subst}
+use mathlib.Core.Path.{sym, ap, _∙_, subst}
 use native.Mathlib.Omega.{arith}
 use Rattle.paper.specs.Cases.{told}
 use Rattle.laws.specs.Numbers.{Small}

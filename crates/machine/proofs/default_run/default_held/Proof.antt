@@ -46,7 +46,8 @@ loop-again c =
     let at-step-lowest = c .before .before .before in
     let at-loop-test = c .before .before .before .before .before in
     let at-loop = c .before .before .before .before .before .before in
-    going-on (at-loop .loop .inv) (at-loop-test .loop-test .taken) (at-step-lowest .step-lowest .ensures) (not-false _ (at-if1 .if1 .left)) (at-step-lowest .step-lowest .kept .0)
+    going-on (at-loop .loop .inv) (at-loop-test .loop-test .taken) (at-step-lowest .step-lowest .ensures)
+    (not-false _ (at-if1 .if1 .left)) (at-step-lowest .step-lowest .kept .0)
 
 same-length-2 : tie.Need-same-length-2 Inv-loop μ-loop
 same-length-2 c = search needs

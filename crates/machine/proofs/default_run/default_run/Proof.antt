@@ -26,7 +26,8 @@ returns-2 c =
     let at-is-state = c .before in
     let at-if1 = c .before .before .before in
     let at-start = c .before .before .before .before .before in
-    default-runs-foreign (at-start .args .state .now) (at-start .args .limit) (at-if1 .if1 .left) (sym (at-is-state .is-state .ensures .says) ∙ not-true _ (at-if2 .if2 .taken))
+    default-runs-foreign (at-start .args .state .now) (at-start .args .limit) (at-if1 .if1 .left)
+    (sym (at-is-state .is-state .ensures .says) ∙ not-true _ (at-if2 .if2 .taken))
 
 default-held-requires : tie.Need-default-held-requires
 unfolding sixteen

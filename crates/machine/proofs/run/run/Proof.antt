@@ -42,7 +42,8 @@ returns-3 c =
     let at-if2 = c .before .before .before .before in
     let at-if1 = c .before .before .before .before .before in
     let at-start = c .before .before .before .before .before .before .before .before in
-    runs-foreign (at-start .args .state .now) (at-start .args .schedule .now) (at-if1 .if1 .left) (at-if2 .if2 .left) (sym (at-is-state .is-state .ensures .says) ∙ not-true _ (at-if3 .if3 .taken)) (at-answer-of2 .answer-of2 .ensures)
+    runs-foreign (at-start .args .state .now) (at-start .args .schedule .now) (at-if1 .if1 .left) (at-if2 .if2 .left)
+    (sym (at-is-state .is-state .ensures .says) ∙ not-true _ (at-if3 .if3 .taken)) (at-answer-of2 .answer-of2 .ensures)
 
 run-held-requires : tie.Need-run-held-requires
 unfolding sixteen

@@ -45,7 +45,12 @@ loop-again c =
     let at-byte-at = c .before .before .before .before in
     let at-loop-test = c .before .before .before .before .before .before in
     let at-loop = c .before .before .before .before .before .before .before in
-    ⊎-elim (λ w. calls-stepped (at-loop .loop .inv) (at-loop-test .loop-test .taken) (at-byte-at .byte-at .ensures) (at-call .call .ensures) (at-call .call .kept .0) (w .0 .taken) (w .1)) (λ w. calls-refused (at-loop .loop .inv) (at-loop-test .loop-test .taken) (at-byte-at .byte-at .ensures) (at-call .call .ensures) (at-call .call .kept .0) (w .0 .left) (w .1)) (at-if1 .if1 .came)
+    ⊎-elim
+    (λ w. calls-stepped (at-loop .loop .inv) (at-loop-test .loop-test .taken) (at-byte-at .byte-at .ensures)
+    (at-call .call .ensures) (at-call .call .kept .0) (w .0 .taken) (w .1))
+    (λ w. calls-refused (at-loop .loop .inv) (at-loop-test .loop-test .taken) (at-byte-at .byte-at .ensures)
+    (at-call .call .ensures) (at-call .call .kept .0) (w .0 .left) (w .1))
+    (at-if1 .if1 .came)
 
 same-length : tie.Need-same-length Inv-loop μ-loop
 same-length c = search needs

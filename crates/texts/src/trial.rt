@@ -1,0 +1,106 @@
+// The trial's text: the judge's line, and the steps of what the raw load loads.
+use crate::entry::Text;
+use crate::judged::judge_line;
+use crate::lines::load_line;
+use crate::steps::default_text;
+use crate::steps::schedule_text;
+use loads::entry::Loaded;
+use plans::store::clear;
+use plans::store::two_at;
+ghost use Prim.Native.Nat.{_≤_};
+ghost use lib.ListN.{length};
+ghost use Rattle.paper.specs.States.{sixteen};
+ghost use Rattle.paper.specs.Texts.{runText};
+ghost use Rattle.texts.specs.Along.{Prints};
+ghost use Rattle.texts.specs.Input.{Image, Schedule};
+ghost use Rattle.texts.specs.LoadText.{RunReady, LoadReady, LoadPrints};
+ghost use Rattle.texts.specs.ImageText.{TrialReady};
+ghost use Rattle.texts.specs.TrialText.{TrialPrints, TrialTexts};
+
+// How many bytes of the input are the image.
+fn image_length(input: &[u8]) -> usize
+    ensures { λ r. ⌜ Image (now (input .entry)) r ⌝ }
+{
+    if input.len() < 2 {
+        return input.len();
+    }
+    let n = two_at(input, 0) + 2;
+    if input.len() < n { input.len() } else { n }
+}
+
+// Where the schedule ends that begins behind the image.
+fn schedule_end(input: &[u8], from: usize) -> usize
+    requires { ⌜ from ≤ length (now input) ⌝ }
+    ensures { λ r. ⌜ Schedule (now (input .entry)) from r ⌝ }
+{
+    if input.len() - from < 8192 {
+        input.len()
+    } else {
+        from + 8192
+    }
+}
+
+// The steps of the schedule, or of the default run where there is none.
+fn run_text(schedule: &[u8], state: &mut [u8], out: &mut [u8], at: usize) -> usize
+    requires { ⌜ RunReady (now schedule) (now state) (now out) at ⌝ }
+    ensures { λ r. ⌜ Prints (runText sixteen (now (schedule .entry))) (now (state .entry)) (now (out .entry)) at (now (state .exit)) (now (out .exit)) r ⌝ }
+{
+    if schedule.len() == 0 {
+        return default_text(state, out, at);
+    }
+    schedule_text(schedule, state, out, at)
+}
+
+// What the raw load gives, run; or its refusal.
+fn load_text(image: &[u8], schedule: &[u8], state: &mut [u8], out: &mut [u8], at: usize) -> usize
+    requires { ⌜ LoadReady (now schedule) (now state) (now out) at ⌝ }
+    ensures { λ r. ⌜ LoadPrints (now (image .entry)) (now (schedule .entry)) (now (state .entry)) (now (out .entry)) at (now (state .exit)) (now (out .exit)) r ⌝ }
+{
+    match loads::entry::raw_load(image, state) {
+        Loaded::Done => run_text(schedule, state, out, at),
+        Loaded::Refused(number, _) => load_line(number, out, at),
+    }
+}
+
+// The text of an image and a schedule, on buffers that are long enough. An image that was not read is not loaded.
+fn image_text(
+    image: &[u8],
+    schedule: &[u8],
+    state: &mut [u8],
+    work: &mut [u8],
+    out: &mut [u8],
+) -> usize
+    requires { ⌜ TrialReady (now schedule) (now state) (now work) (now out) ⌝ }
+    ensures { λ r. ⌜ TrialPrints (now (image .entry)) (now (schedule .entry)) (now (state .entry)) (now (work .entry)) (now (out .entry)) r (now (state .exit)) (now (work .exit)) (now (out .exit)) ⌝ }
+{
+    let line = judge_line(image, work, out);
+    let number = line.number;
+    let end = line.end;
+    if number < 2 {
+        return load_text(image, schedule, state, out, end);
+    }
+    if 9 < number {
+        return load_text(image, schedule, state, out, end);
+    }
+    end
+}
+
+// The trial's text for an input, first in the lent buffer. The state's bytes are zero afterwards.
+pub fn trial_text(input: &[u8], state: &mut [u8], work: &mut [u8], out: &mut [u8]) -> Text
+    ensures { λ r. ⌜ TrialTexts (now (input .entry)) (now (state .entry)) (now (work .entry)) (now (out .entry)) r (now (state .exit)) (now (work .exit)) (now (out .exit)) ⌝ }
+{
+    if state.len() < 49408 {
+        return Text::ShortBuffer;
+    }
+    if work.len() < 40960 {
+        return Text::ShortBuffer;
+    }
+    if out.len() < 74262 {
+        return Text::ShortBuffer;
+    }
+    let n = image_length(input);
+    let m = schedule_end(input, n);
+    let end = image_text(&input[..n], &input[n..m], state, work, out);
+    clear(&mut state[..49408]);
+    Text::Written(end)
+}
