@@ -64,9 +64,21 @@ pub record Held (card : Card) (state : List ℕ) : Type 0 where
   pub held : State
   pub holds : Holds card state held
 
--- and thread i of it has the bytes s
-pub record Running (card : Card) (state : List ℕ) (i : ℕ) (s out : List ℕ) : Type 0 where
+-- what is lent to a step: for a copy of the thread, for the thread afterwards, and for the stack of a pass over it
+pub record Scratch (old out stack : List ℕ) : Type 0 where
+  pub copy : length old ≡ 2048
+  pub after : length out ≡ 2048
+  pub deep : length stack ≡ 2048
+
+-- a buffer keeps its length
+pub scratch-kept : {old out stack old′ out′ stack′ : List ℕ} → Scratch old out stack → length old′ ≡ length old → length out′ ≡ length out
+    → length stack′ ≡ length stack → Scratch old′ out′ stack′
+scratch-kept w a b c = record { copy = a ∙ w .copy; after = b ∙ w .after; deep = c ∙ w .deep }
+
+-- the buffer holds a state, and thread i of it has the bytes s
+pub record Running (card : Card) (state : List ℕ) (i : ℕ) (s out stack : List ℕ) : Type 0 where
   pub base : Held card state
   pub here : i < length (base .held .threads)
   pub bytes : s ≡ termBytes (getD (base .held .threads) i Term.unit)
   pub room : length out ≡ card .threadBytes
+  pub deep : card .threadBytes ≤ length stack

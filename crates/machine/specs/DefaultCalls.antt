@@ -108,8 +108,7 @@ module _ {card : Card} {before : List ℕ} {limit : ℕ} where
           go none e (none-can q) =
               subst (λ s. DefaultRuns card before limit s (Ran steps)) (sym q) (stops (ap (λ n. default card n steps S) more ∙ no-step card _ steps S e))
 
-      pub going-on : {after : List ℕ} {r : Bool} → StepsLowest card state after r → r ≡ true
-          → length after ≡ length state → Going card before limit after (steps + 1)
+      pub going-on : {after : List ℕ} {r : Bool} → StepsLowest card state after r → r ≡ true → length after ≡ length state → Going card before limit after (steps + 1)
       unfolding afterDefault
       going-on {after} x b long = go (lowest card S) refl (rw b at (x .does (g .held)))
         where

@@ -13,13 +13,13 @@ use Rattle.paper.specs.Terms.{Term, termBytes, put, asFunction, asNumber, asLoc
 use Rattle.paper.specs.States.{State, Card}
 use Rattle.paper.specs.Answers.{forked}
 use Rattle.paper.specs.Steps.{Move, full, goes, nothing, newCell, newLock, released, newThread, orStuck, newPlace}
-use Rattle.slots.specs.Put.{spliced}
+use Rattle.slots.specs.Put.{piece, spliced}
 use Rattle.slots.specs.TermAt.{beyond}
 use Rattle.slots.specs.Written.{Written}
 use Rattle.machine.specs.declared.act.Act.{Act}
 use Rattle.machine.specs.declared.act.Act.the-variants.{Stuck, Full, Long, Waits, Goes}
 use Rattle.machine.specs.declared.act.Also.the-variants.{Nothing, NewCell, SetCell, NewLock, Taken, Released, NewThread}
-use Rattle.machine.specs.Means.{piece, part-bytes, became, exchanged, Means, is-stuck, is-full, is-long, is-waits, is-goes}
+use Rattle.machine.specs.Means.{part-bytes, became, exchanged, Means, is-stuck, is-full, is-long, is-waits, is-goes}
 use Rattle.machine.specs.Means.{is-nothing, is-new-cell, is-set-cell, is-new-lock, is-taken, is-released, is-new-thread}
 use Rattle.machine.specs.Parts.{not-function, not-number, not-lock, not-cell, function-there, lock-there, cell-there, number-there}
 use Rattle.machine.specs.Kinds.{PutIn, Applied, LetBound, WentOn, LockMade, CellMade, CellRead, CellWritten, Forked, LockTaken}

@@ -13,7 +13,8 @@ use Rattle.plans.specs.Reads.{Filled, threads-read, thread-read}
 use Rattle.plans.specs.Stepping.{step-nobody}
 use Rattle.slots.specs.Written.{Written, roomFor}
 use Rattle.machine.specs.declared.step.Step.the-variants.{NoSuchThread}
-use Rattle.machine.specs.Means.{piece, became}
+use Rattle.slots.specs.Put.{piece}
+use Rattle.machine.specs.Means.{became}
 use Rattle.machine.specs.Answering.{Held, Running, Answers}
 
 -- bytes that have room stand first
@@ -47,10 +48,10 @@ module _ {card : Card} {state : List ℕ} (w : Held card state) {i : ℕ} where
       pub held-inside : 256 + card .threadBytes * i + n ≤ length state
       held-inside = omega (arith, size, slot .fits, slot .room)
 
-      pub held-running : {before old out : List ℕ} {r : ℕ}
+      pub held-running : {before old out stack : List ℕ} {r : ℕ}
           → Written (piece state (256 + card .threadBytes * i) (256 + card .threadBytes * i + n)) before old r → length before ≡ 2048
-          → length out ≡ card .threadBytes → Running card state i (take n old) out
-      held-running {before} {old} {r = r} x l o =
+          → length out ≡ card .threadBytes → length stack ≡ 2048 → Running card state i (take n old) out stack
+      held-running {before} {old} {r = r} x l o d =
           let t = termBytes (getD (w .held .threads) i Term.unit) in
           let a = 256 + card .threadBytes * i in
           let k : a + n - a ≡ length t = omega (arith, size) in
@@ -61,4 +62,5 @@ module _ {card : Card} {state : List ℕ} (w : Held card state) {i : ℕ} where
             here = here;
             bytes = ap (λ j. take j old) size ∙ there y (let s = w .short in omega (arith, slot .fits));
             room = o;
+            deep = let s = w .short in omega arith;
           }

@@ -15,6 +15,7 @@ pub mod Altering
 -- ---- the step
 pub mod Answering
 pub mod Finished
+pub mod Behind
 pub mod Running
 pub mod Entering
 pub mod Around

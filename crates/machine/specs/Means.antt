@@ -14,7 +14,7 @@ use Rattle.paper.specs.States.{State, Card}
 use Rattle.paper.specs.Steps.{Change, nothing, newCell, setCell, newLock, taken, released, newThread}
 use Rattle.paper.specs.Steps.{Move, waits, stuck, full, long, goes}
 use Rattle.paper.specs.Calls.{laid}
-use Rattle.slots.specs.Put.{spliced}
+use Rattle.slots.specs.Put.{piece, spliced}
 use Rattle.slots.specs.Written.{Written, written-fits, roomFor}
 use Rattle.slots.specs.TermAt.{some-bytes, stands}
 use Rattle.machine.specs.declared.act.Act.{Act}
@@ -40,10 +40,14 @@ pub record Cut3 (s : List ℕ) (a b c d : ℕ) : Type 0 where
   pub third : c < d
   pub inside : d ≤ length s
 
--- what is put in, and where it goes, are no longer than the scratch
-pub record Short (s out : List ℕ) : Type 0 where
-  pub from : length s ≤ 2048
-  pub to : length out ≤ 2048
+-- the part from p up to q is within the thread
+pub record Around (s : List ℕ) (p q : ℕ) : Type 0 where
+  pub first : p ≤ length s
+  pub rest : q ≤ length s
+
+-- no part of s is longer than the lent stack
+pub record Short (s stack : List ℕ) : Type 0 where
+  pub long : length s ≤ length stack
 
 -- where the cells' slots are, and how large: their places are numbers of the machine
 pub record Sized (from size : ℕ) : Type 0 where
@@ -55,9 +59,6 @@ slot-low size j h k =
     let l : size ≤ 65535 = omega arith in
     let m : j ≤ 255 = omega arith in
     omega (arith, mul-le-mul l m)
-
-abbrev pub piece : List ℕ → ℕ → ℕ → List ℕ
-piece s a b = take (b - a) (drop a s)
 
 -- the term v stands from a up to b
 pub record Part (s : List ℕ) (a b : ℕ) (v : Term) : Type 0 where

@@ -1,38 +1,38 @@
--- The two ways of `put_in`: what was put in does not fit the scratch, so it does not fit the thread; or it is exchanged for the part.
-use mathlib.Core.Path.{_≡_, sym, ap, ap₂, _∙_, subst}
+-- The three pieces of `put_in`, one behind the other, are the thread with the part exchanged.
+use mathlib.Core.Path.{_≡_, refl, sym, ap, ap₂, _∙_, subst}
 use mathlib.Core.List.{List, [], _++_, append-nil}
-use Prim.Native.Nat.{ℕ, _+_, _<_, _≤_}
+use Prim.Native.Nat.{ℕ, _-_, _<_, _≤_, min}
 use native.Mathlib.Omega.{arith}
-use lib.ListN.{length, take, drop, length-append}
+use lib.ListN.{length, take, drop}
 use Rattle.paper.specs.Terms.{Term, termBytes, put}
-use Rattle.slots.specs.Put.{spliced, putIn, Put}
+use Rattle.slots.specs.Put.{spliced, putIn}
 use Rattle.slots.specs.PutTerm.{put-whole}
+use Rattle.slots.specs.Splice.{splice-first, splice-second, splice-third}
 use Rattle.slots.specs.Written.{Written}
-use Rattle.machine.specs.Means.{Became, became, exchanged}
+use Rattle.machine.specs.Means.{Around, Short, exchanged}
 use Rattle.machine.specs.Kinds.{PutIn}
 
--- a thread is no shorter than the part that it gets
-pub spliced-length : (s : List ℕ) (p q : ℕ) (mid : List ℕ) → length mid ≤ length (spliced s p q mid)
-unfolding spliced
-spliced-length s p q mid = omega (arith, length-append (take p s) (mid ++ drop q s), length-append mid (drop q s))
+module _ {s : List ℕ} {p q : ℕ} (around : Around s p q) {body stack : List ℕ} (short : Short body stack) (v before : List ℕ) where
+  -- what the pass makes is the bytes of the term
+  made : {after : List ℕ} {r : ℕ} → Written (spliced s p q (putIn (length stack) body v)) before after r → PutIn s p q body v (length before) after r
+  made w = record { does = λ e x eb ev. exchanged s p q _ (put 0 x e) w (is e x eb ev) }
+    where
+      is : (e x : Term) → body ≡ termBytes e → v ≡ termBytes x → putIn (length stack) body v ≡ termBytes (put 0 x e)
+      is e x eb ev =
+          ap₂ (putIn (length stack)) (eb ∙ sym (append-nil (termBytes e))) ev
+          ∙ put-whole e x [] (length stack) (omega (arith, short .long, ap length eb, ap length (append-nil (termBytes e))))
 
-module _ {body v d d′ st st′ : List ℕ} {n : ℕ} (w : Put body v d d′ st st′ n) (ld : length d ≡ 2048) (ls : length st ≡ 2048)
-    (lb : length body ≤ 2048) where
-  made : (e x : Term) → body ≡ termBytes e → v ≡ termBytes x → Became (termBytes (put 0 x e)) 2048 d′ n
-  made e x eb ev =
-      let z : putIn (length st) body v ≡ termBytes (put 0 x e) =
-      ap₂ (putIn (length st)) (eb ∙ sym (append-nil (termBytes e))) ev
-      ∙ put-whole e x [] (length st) (omega (arith, ap length eb, ap length (append-nil (termBytes e)))) in
-      subst (λ k. Became (termBytes (put 0 x e)) k d′ n) ld (became (subst (λ y. Written y d d′ n) z (w .written)))
+  module _ {d₁ : List ℕ} {r₁ : ℕ} (w₁ : Written (take 0 before ++ take p s) before d₁ r₁) where
+    whole : p ≡ min p (length s)
+    whole = omega (arith, around .first)
 
-  pub put-long : {s : List ℕ} {p q room : ℕ} {out : List ℕ} → room ≤ 2048 → 2048 < n → PutIn s p q body v room out (room + 1)
-  put-long {s} {p} {q} r l = record {
-    does = λ e x eb ev. record {
-      fits = λ h. absurd (omega arith);
-      short = λ h. let m = made e x eb ev .short l in omega (arith, spliced-length s p q (termBytes (put 0 x e)));
-    };
-  }
+    pub put-first : length before < r₁ → PutIn s p q body v (length before) d₁ r₁
+    put-first l = made (splice-first s p q _ before p whole w₁ l)
 
-  pub put-done : {s : List ℕ} {p q : ℕ} {before after : List ℕ} {r : ℕ} → n ≤ 2048 → Written (spliced s p q (take n d′)) before after r
-      → PutIn s p q body v (length before) after r
-  put-done {s} {p} {q} l x = record { does = λ e y eb ev. exchanged s p q (take n d′) (put 0 y e) x (made e y eb ev .fits l .0) }
+    module _ (f : r₁ ≤ length before) {d₂ : List ℕ} {r₂ : ℕ} (w₂ : Written (take r₁ d₁ ++ putIn (length stack) body v) d₁ d₂ r₂) where
+      pub put-second : length before < r₂ → PutIn s p q body v (length before) d₂ r₂
+      put-second l = made (splice-second s p q _ before p whole w₁ f w₂ l)
+
+      pub put-third : r₂ ≤ length before → {d₃ : List ℕ} {r₃ : ℕ} → Written (take r₂ d₂ ++ take (length s - q) (drop q s)) d₂ d₃ r₃
+          → PutIn s p q body v (length before) d₃ r₃
+      put-third l w₃ = made (splice-third s p q _ before p whole w₁ f w₂ l q (omega (arith, around .rest)) w₃)

@@ -2,7 +2,7 @@
 use mathlib.Core.Path.{_≡_, refl, sym, ap, _∙_, subst}
 use mathlib.Core.Bool.{Bool, true, false}
 use mathlib.Core.List.{List, [], append-nil}
-use Prim.Native.Nat.{ℕ, _+_, _*_, _<_, _≤_}
+use Prim.Native.Nat.{ℕ, _+_, _*_, _<_, _≤_, max}
 use native.Mathlib.Omega.{arith}
 use lib.ListN.{length, getD, take, drop}
 use Rattle.paper.specs.Base.{at}
@@ -16,10 +16,8 @@ use Rattle.laws.specs.Good.{good-whole}
 use Rattle.laws.specs.Keeping.{here-at}
 use Rattle.laws.specs.StateBytes.{good-sound}
 use Rattle.laws.specs.Values.{Value, v-unit, v-num, v-fun, v-lock, v-cell, is-value}
-use Rattle.plans.specs.ByteAt.{holds-long}
 use Rattle.plans.specs.Reads.{Filled, thread-read}
 use Rattle.plans.specs.Store.{Stores}
-use Rattle.plans.specs.Rooms.{thread-stored}
 use Rattle.plans.specs.Changing.{Named}
 use Rattle.plans.specs.Naming.{Names, names, thread-names}
 use Rattle.plans.specs.Stepping.{step-made, step-finished, step-waits, step-stuck, step-full, step-long, step-outgrows}
@@ -38,6 +36,7 @@ use Rattle.machine.specs.Cutting.{Redex}
 use Rattle.machine.specs.Acting.{Acts}
 use Rattle.machine.specs.Altering.{Altering, Alters}
 use Rattle.machine.specs.Answering.{Answers, Running}
+use Rattle.machine.specs.Behind.{thread-restored}
 use Rattle.machine.specs.Finished.{ValueCode}
 
 value-rests : (card : Card) (S : State) {t : Term} → Value t → move card S t ≡ finished
@@ -72,7 +71,7 @@ module _ {card : Card} {S : State} {s : List ℕ} {p q room : ℕ} {out : List �
   means-waits : {l : ℕ} {m : Move} → Means card S s p q room out (Waits l) m → m ≡ waits l
   means-waits is-waits = refl
 
-module _ {card : Card} {state : List ℕ} {i : ℕ} {s buffer : List ℕ} (w : Running card state i s buffer) where
+module _ {card : Card} {state : List ℕ} {i : ℕ} {s buffer stack : List ℕ} (w : Running card state i s buffer stack) where
   S : State
   S = w .base .held
 
@@ -104,8 +103,8 @@ module _ {card : Card} {state : List ℕ} {i : ℕ} {s buffer : List ℕ} (w : R
   pub thread-some : 0 < length s
   thread-some = let e = ap length bytes in omega (arith, some-bytes thread)
 
-  pub thread-short : Short s buffer
-  thread-short = let a = w .base .short in let b = w .room in record { from = omega (arith, thread-fits); to = omega arith }
+  pub thread-short : Short s stack
+  thread-short = record { long = omega (arith, thread-fits, w .deep) }
 
   pub thread-low : i < 256
   thread-low = omega (arith, here, good-sound card S (holds .state) .threads, fits .threads)
@@ -211,21 +210,19 @@ module _ {card : Card} {state : List ℕ} {i : ℕ} {s buffer : List ℕ} (w : R
         pub run-altering : Altering card state s also
         run-altering = record { held = S; holds = holds; change = on .change; means = on .changes; named = named; thread = thread-fits }
 
-        pub run-made : {between after : List ℕ} → m ≤ length buffer → length between ≡ length state → Alters card s also state between
-            → Stores (256 + card .threadBytes * i) (card .threadBytes) (38 + 2 * i) (take m out) between after
+        pub run-made : {between after : List ℕ} {used : ℕ} → m ≤ length buffer → length between ≡ length state → Alters card s also state between
+            → used ≡ max (length s) m → Stores (256 + card .threadBytes * i) used (38 + 2 * i) (take m out) between after
             → Answers card state i after (Made k n)
         unfolding told thread
-        run-made {between} {after} l kept alters stores =
+        run-made {between} {after} {used} l kept alters u stores =
             let b = on .became .fits l in
             let y = found thread .frame (on .term) in
             let f : take m out ≡ termBytes y = b .0 ∙ sym (framed (on .term)) in
             let g = ap length (framed (on .term)) in
             let o = w .room in
-            let h = holds-long card fits state S holds in
+            let was = ap length bytes in
             let short : length (termBytes y) ≤ card .threadBytes = omega (arith, b .1) in
-            let st = thread-stored card fits (omega arith) i y (omega (arith, here, good-sound card S (holds .state) .threads)) short
-            (subst (λ z. Stores (256 + card .threadBytes * i) (card .threadBytes) (38 + 2 * i) z between after) f stores) in
-            record {
-              says = step-made card fits state S holds i here next short
-                  (alters .does S holds (on .change) (on .changes) named thread-fits) st;
-            }
+            let changes = alters .does S holds (on .change) (on .changes) named thread-fits in
+            let st = thread-restored card fits state S holds i here (on .change) kept named changes y used (omega arith) (omega (arith, b .1))
+            (omega (arith, thread-fits)) (subst (λ z. Stores (256 + card .threadBytes * i) used (38 + 2 * i) z between after) f stores) in
+            record { says = step-made card fits state S holds i here next short changes st }

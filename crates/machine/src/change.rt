@@ -10,13 +10,14 @@ use plans::store::byte_at;
 use plans::store::put_byte;
 use plans::store::store;
 
-pub(crate) fn set_thread(state: &mut [u8], card: Card, i: usize, bytes: &[u8])
+// As if thread i's slot had only `used` bytes: those behind stay as they are.
+pub(crate) fn set_thread(state: &mut [u8], card: Card, i: usize, used: usize, bytes: &[u8])
     requires { ⌜ Fits (cardOf card) ⌝ }
     requires { ⌜ i < 256 ⌝ }
-    ensures { λ _. ⌜ ThreadPut (cardOf card) i (now (bytes .entry)) (now (state .entry)) (now (state .exit)) ⌝ }
+    ensures { λ _. ⌜ ThreadPut (cardOf card) i used (now (bytes .entry)) (now (state .entry)) (now (state .exit)) ⌝ }
 {
     let size = card.thread_bytes;
-    store(state, 256 + size * i, size, 38 + 2 * i, bytes);
+    store(state, 256 + size * i, used, 38 + 2 * i, bytes);
 }
 
 fn set_cell(state: &mut [u8], card: Card, j: usize, bytes: &[u8])
@@ -35,7 +36,7 @@ fn new_thread(state: &mut [u8], card: Card, i: usize, bytes: &[u8])
     requires { ⌜ i < 255 ⌝ }
     ensures { λ _. ⌜ ThreadAdded (cardOf card) i (now (bytes .entry)) (now (state .entry)) (now (state .exit)) ⌝ }
 {
-    set_thread(state, card, i, bytes);
+    set_thread(state, card, i, card.thread_bytes, bytes);
     put_byte(state, 3, (i + 1) as u8);
 }
 

@@ -23,9 +23,17 @@ use plans::store::byte_at;
 use slots::walk::skip;
 
 // The codes of two parts or three.
-fn act_on_more(s: &[u8], p: usize, q: usize, state: &[u8], card: Card, out: &mut [u8]) -> Act
+fn act_on_more(
+    s: &[u8],
+    p: usize,
+    q: usize,
+    state: &[u8],
+    card: Card,
+    out: &mut [u8],
+    stack: &mut [u8],
+) -> Act
     requires { ⌜ Redex (now s) p q ⌝ }
-    requires { ⌜ Short (now s) (now out) ⌝ }
+    requires { ⌜ Short (now s) (now stack) ⌝ }
     requires { ⌜ Fits (cardOf card) ⌝ }
     requires { ⌜ Several (getD (now s) p 0) ⌝ }
     ensures { λ r. ⌜ Acts (cardOf card) (now (s .entry)) p q (now (state .entry)) (length (now (out .entry))) (now (out .exit)) r ⌝ }
@@ -34,7 +42,7 @@ fn act_on_more(s: &[u8], p: usize, q: usize, state: &[u8], card: Card, out: &mut
     let f = p + 1;
     let g = skip(s, f);
     if c == 5 {
-        return apply(s, p, f, g, q, out);
+        return apply(s, p, f, g, q, out, stack);
     }
     if c == 8 {
         return write(s, p, f, g, q, card.cell_bytes, out);
@@ -43,7 +51,7 @@ fn act_on_more(s: &[u8], p: usize, q: usize, state: &[u8], card: Card, out: &mut
         return take(s, p, f, g, q, state, out);
     }
     if c == 12 {
-        return bind(s, p, f, g, q, out);
+        return bind(s, p, f, g, q, out, stack);
     }
     if c == 13 {
         return went_on(s, p, g, q, out);
@@ -59,9 +67,17 @@ fn act_on_more(s: &[u8], p: usize, q: usize, state: &[u8], card: Card, out: &mut
 }
 
 // What the part from p up to q of a thread's bytes does, on the state; the thread afterwards goes to `out`.
-pub(crate) fn act(s: &[u8], p: usize, q: usize, state: &[u8], card: Card, out: &mut [u8]) -> Act
+pub(crate) fn act(
+    s: &[u8],
+    p: usize,
+    q: usize,
+    state: &[u8],
+    card: Card,
+    out: &mut [u8],
+    stack: &mut [u8],
+) -> Act
     requires { ⌜ Redex (now s) p q ⌝ }
-    requires { ⌜ Short (now s) (now out) ⌝ }
+    requires { ⌜ Short (now s) (now stack) ⌝ }
     requires { ⌜ Fits (cardOf card) ⌝ }
     ensures { λ r. ⌜ Acts (cardOf card) (now (s .entry)) p q (now (state .entry)) (length (now (out .entry))) (now (out .exit)) r ⌝ }
 {
@@ -87,10 +103,10 @@ pub(crate) fn act(s: &[u8], p: usize, q: usize, state: &[u8], card: Card, out: &
         return fork(s, p, f, q, byte_at(state, 3), card.threads, out);
     }
     if c == 10 {
-        return make_lock(s, p, f, q, byte_at(state, 5), card.locks, out);
+        return make_lock(s, p, f, q, byte_at(state, 5), card.locks, out, stack);
     }
     if c == 18 {
         return release(s, p, p + 2, q, out);
     }
-    act_on_more(s, p, q, state, card, out)
+    act_on_more(s, p, q, state, card, out, stack)
 }

@@ -14,5 +14,8 @@ pub fn step(state: &mut [u8], thread: u64) -> Step
     if !states::is_state(state) {
         return Step::NoState;
     }
-    step_held(state, thread, SIXTEEN)
+    let mut old = [0u8; 2048];
+    let mut out = [0u8; 2048];
+    let mut stack = [0u8; 2048];
+    step_held(state, thread, SIXTEEN, &mut old, &mut out, &mut stack)
 }

@@ -5,48 +5,52 @@ ghost use Prim.Native.Nat.{_<_, _≤_};
 ghost use lib.ListN.{length};
 ghost use Rattle.paper.specs.Base.{word32};
 ghost use Rattle.machine.specs.Means.{Cut, Cut2, Cut3, Short, Sized};
-ghost use Rattle.machine.specs.Kinds.{PutIn, Applied, LetBound, LockMade, CellMade, CellRead, CellWritten, Forked};
+ghost use Rattle.machine.specs.Kinds.{Applied, LetBound, LockMade, CellMade, CellRead, CellWritten, Forked};
 ghost use Rattle.machine.specs.Kinds.{LockTaken, LockReleased, WentOn, Added, Branched};
 use crate::act::Act;
 use crate::act::Also;
+use crate::putting::put_in;
 use plans::store::byte_at;
 use plans::store::two_at;
-use slots::put::put;
 use slots::put::splice;
 
-// The thread with the part exchanged for a body with a value put for its outermost variable. What does not fit the scratch does not fit `out`.
-fn put_in(s: &[u8], p: usize, q: usize, body: &[u8], v: &[u8], out: &mut [u8]) -> usize
-    requires { ⌜ Short (now body) (now out) ⌝ }
-    ensures { λ r. ⌜ PutIn (now (s .entry)) p q (now (body .entry)) (now (v .entry)) (length (now (out .entry))) (now (out .exit)) r ⌝ }
-{
-    let mut mid = [0u8; 2048];
-    let mut stack = [0u8; 2048];
-    let n = put(body, v, &mut mid, &mut stack);
-    if 2048 < n {
-        return out.len() + 1;
-    }
-    splice(s, p, q, &mid[..n], out)
-}
-
-pub(crate) fn apply(s: &[u8], p: usize, f: usize, g: usize, q: usize, out: &mut [u8]) -> Act
+pub(crate) fn apply(
+    s: &[u8],
+    p: usize,
+    f: usize,
+    g: usize,
+    q: usize,
+    out: &mut [u8],
+    stack: &mut [u8],
+) -> Act
     requires { ⌜ Cut2 (now s) f g q ⌝ }
-    requires { ⌜ Short (now s) (now out) ⌝ }
+    requires { ⌜ p < f ⌝ }
+    requires { ⌜ Short (now s) (now stack) ⌝ }
     ensures { λ r. ⌜ Applied (now (s .entry)) p f g q (length (now (out .entry))) (now (out .exit)) r ⌝ }
 {
     if s[f] != 4 {
         return Act::Stuck;
     }
     let b = f + 1;
-    let n = put_in(s, p, q, &s[b..g], &s[g..q], out);
+    let n = put_in(s, p, q, &s[b..g], &s[g..q], out, stack);
     Act::Goes(1, 0, n, Also::Nothing)
 }
 
-pub(crate) fn bind(s: &[u8], p: usize, f: usize, g: usize, q: usize, out: &mut [u8]) -> Act
+pub(crate) fn bind(
+    s: &[u8],
+    p: usize,
+    f: usize,
+    g: usize,
+    q: usize,
+    out: &mut [u8],
+    stack: &mut [u8],
+) -> Act
     requires { ⌜ Cut2 (now s) f g q ⌝ }
-    requires { ⌜ Short (now s) (now out) ⌝ }
+    requires { ⌜ p < f ⌝ }
+    requires { ⌜ Short (now s) (now stack) ⌝ }
     ensures { λ r. ⌜ LetBound (now (s .entry)) p f g q (length (now (out .entry))) (now (out .exit)) r ⌝ }
 {
-    let n = put_in(s, p, q, &s[g..q], &s[f..g], out);
+    let n = put_in(s, p, q, &s[g..q], &s[f..g], out, stack);
     Act::Goes(9, 0, n, Also::Nothing)
 }
 
@@ -67,9 +71,11 @@ pub(crate) fn make_lock(
     count: u8,
     room: usize,
     out: &mut [u8],
+    stack: &mut [u8],
 ) -> Act
     requires { ⌜ Cut (now s) f q ⌝ }
-    requires { ⌜ Short (now s) (now out) ⌝ }
+    requires { ⌜ p < f ⌝ }
+    requires { ⌜ Short (now s) (now stack) ⌝ }
     ensures { λ r. ⌜ LockMade (now (s .entry)) p f q count room (length (now (out .entry))) (now (out .exit)) r ⌝ }
 {
     let l = count as usize;
@@ -77,7 +83,7 @@ pub(crate) fn make_lock(
         return Act::Full;
     }
     let v = [16u8, count];
-    let n = put_in(s, p, q, &s[f..q], &v, out);
+    let n = put_in(s, p, q, &s[f..q], &v, out, stack);
     Act::Goes(6, l, n, Also::NewLock)
 }
 

@@ -2,7 +2,7 @@
 // schedule)." Calls on a short buffer or on bytes that are no state all answer the same and change nothing, so none of them is made.
 ghost use Rattle.paper.specs.States.{sixteen};
 ghost use Rattle.machine.specs.Acting.{cardOf};
-ghost use Rattle.machine.specs.Answering.{Held};
+ghost use Rattle.machine.specs.Answering.{Held, Scratch};
 ghost use Rattle.machine.specs.RunCalls.{Runs};
 use crate::act::Card;
 use crate::act::SIXTEEN;
@@ -16,15 +16,24 @@ pub struct Ran {
     pub last: u8,
 }
 
-fn run_held(state: &mut [u8], schedule: &[u8], card: Card) -> Ran
+// The scratch of a step is lent to every call.
+fn run_held(
+    state: &mut [u8],
+    schedule: &[u8],
+    card: Card,
+    old: &mut [u8],
+    out: &mut [u8],
+    stack: &mut [u8],
+) -> Ran
     requires { ⌜ Held (cardOf card) (now state) ⌝ }
+    requires { ⌜ Scratch (now old) (now out) (now stack) ⌝ }
     ensures { λ r. ⌜ Runs (cardOf card) (now (state .entry)) (now (schedule .entry)) (now (state .exit)) r ⌝ }
 {
     let mut steps: usize = 0;
     let mut last = 0;
     let n = schedule.len();
     for i in 0..n {
-        last = call(state, byte_at(schedule, i) as u64, card);
+        last = call(state, byte_at(schedule, i) as u64, card, old, out, stack);
         if last == 0 {
             steps += 1;
         }
@@ -50,5 +59,8 @@ pub fn run(state: &mut [u8], schedule: &[u8]) -> Ran
             last: answer_of(Step::NoState),
         };
     }
-    run_held(state, schedule, SIXTEEN)
+    let mut old = [0u8; 2048];
+    let mut out = [0u8; 2048];
+    let mut stack = [0u8; 2048];
+    run_held(state, schedule, SIXTEEN, &mut old, &mut out, &mut stack)
 }

@@ -1,8 +1,9 @@
 // One step of a thread, on a buffer that holds a state. The thread is copied aside first, so that what is put into it or goes elsewhere is read
-// from the copy; the scratch is 2,048 bytes, a card's thread no more.
-ghost use Rattle.slots.specs.Written.{Written};
+// from the copy. The scratch is lent, so that a run clears it once: the copy, the thread afterwards, and the stack of a pass.
+ghost use mathlib.Core.Path.{_≡_};
+ghost use Prim.Native.Nat.{max};
 ghost use Rattle.machine.specs.Acting.{cardOf};
-ghost use Rattle.machine.specs.Answering.{Running, Held, Answers};
+ghost use Rattle.machine.specs.Answering.{Running, Held, Scratch, Answers};
 ghost use Rattle.machine.specs.Finished.{ValueCode};
 use crate::act::Act;
 use crate::act::Card;
@@ -11,7 +12,7 @@ use crate::change::set_thread;
 use crate::dispatch::act;
 use plans::store::byte_at;
 use plans::store::two_at;
-use slots::put::splice;
+use slots::put::fill;
 use slots::walk::skip;
 use slots::way::place;
 
@@ -50,16 +51,22 @@ fn is_value(c: u8) -> bool
     false
 }
 
-// The bytes first in dst, as far as there is room.
-fn copied(src: &[u8], dst: &mut [u8]) -> usize
-    ensures { λ r. ⌜ Written (now (src .entry)) (now (dst .entry)) (now (dst .exit)) r ⌝ }
+fn most(a: usize, b: usize) -> usize
+    ensures { λ r. ⌜ r ≡ max a b ⌝ }
 {
-    splice(src, 0, 0, &src[..0], dst)
+    if a < b { b } else { a }
 }
 
-// The step of thread i, whose bytes are s.
-fn run_thread(state: &mut [u8], i: usize, card: Card, s: &[u8], out: &mut [u8]) -> Step
-    requires { ⌜ Running (cardOf card) (now state) i (now s) (now out) ⌝ }
+// The step of thread i, whose bytes are s: the slot is zero behind them already.
+fn run_thread(
+    state: &mut [u8],
+    i: usize,
+    card: Card,
+    s: &[u8],
+    out: &mut [u8],
+    stack: &mut [u8],
+) -> Step
+    requires { ⌜ Running (cardOf card) (now state) i (now s) (now out) (now stack) ⌝ }
     ensures { λ r. ⌜ Answers (cardOf card) (now (state .entry)) i (now (state .exit)) r ⌝ }
 {
     if is_value(s[0]) {
@@ -67,7 +74,7 @@ fn run_thread(state: &mut [u8], i: usize, card: Card, s: &[u8], out: &mut [u8]) 
     }
     let p = place(s);
     let q = skip(s, p);
-    match act(s, p, q, state, card, out) {
+    match act(s, p, q, state, card, out, stack) {
         Act::Stuck => Step::IsStuck,
         Act::Full => Step::TooMany,
         Act::Long => Step::TooLong,
@@ -77,15 +84,24 @@ fn run_thread(state: &mut [u8], i: usize, card: Card, s: &[u8], out: &mut [u8]) 
                 return Step::TooLong;
             }
             change(state, card, s, also);
-            set_thread(state, card, i, &out[..n]);
+            let used = most(s.len(), n);
+            set_thread(state, card, i, used, &out[..n]);
             Step::Made(kind, number)
         }
     }
 }
 
 // A thread number is 64 bits wide until it is known to be below the count.
-pub(crate) fn step_held(state: &mut [u8], i: u64, card: Card) -> Step
+pub(crate) fn step_held(
+    state: &mut [u8],
+    i: u64,
+    card: Card,
+    old: &mut [u8],
+    out: &mut [u8],
+    stack: &mut [u8],
+) -> Step
     requires { ⌜ Held (cardOf card) (now state) ⌝ }
+    requires { ⌜ Scratch (now old) (now out) (now stack) ⌝ }
     ensures { λ r. ⌜ Answers (cardOf card) (now (state .entry)) i (now (state .exit)) r ⌝ }
 {
     let count = byte_at(state, 3) as u64;
@@ -97,8 +113,6 @@ pub(crate) fn step_held(state: &mut [u8], i: u64, card: Card) -> Step
     let n = two_at(state, 38 + 2 * k);
     let a = 256 + size * k;
     let b = a + n;
-    let mut old = [0u8; 2048];
-    copied(&state[a..b], &mut old);
-    let mut out = [0u8; 2048];
-    run_thread(state, k, card, &old[..n], &mut out[..size])
+    fill(&state[a..b], old, 0);
+    run_thread(state, k, card, &old[..n], &mut out[..size], stack)
 }

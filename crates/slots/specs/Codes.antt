@@ -1,13 +1,13 @@
 -- What each code of the erased form has, as tables by the code, which the byte functions and the functions of code look up alike: how many
 -- parts, how many bytes of its own before them, which part stands under a binder of it, where evaluation goes, and which codes are a
 -- value's (document 01, "The program image", "The running state"). Past 12 every table has its default.
-use mathlib.Core.Path.{_≡_, refl, sym, subst}
+use mathlib.Core.Path.{_≡_, refl, sym, ap, _∙_, subst}
 use mathlib.Core.Bool.{Bool, true, false, _&&_}
 use mathlib.Core.List.{List, [], _∷_, map}
-use Prim.Native.Nat.{ℕ, zero, suc, _<_, _≤_}
+use Prim.Native.Nat.{ℕ, zero, suc, _+_, _*_, _/_, _%_, _^_, _<_, _≤_}
 use native.Mathlib.Omega.{arith}
-use lib.Dec.{T, leb, eqb, leb→le}
-use lib.ListN.{getD, List·getD-eq-default}
+use lib.Dec.{T, leb, eqb, leb→le, eqb→eq}
+use lib.ListN.{length, getD, List·getD-eq-default}
 use borrow.Author.Tests.{ne-eqb}
 use Rattle.paper.specs.Base.{choose}
 
@@ -91,9 +91,25 @@ entry≤ b [] t k = omega arith
 entry≤ b (x ∷ xs) t zero = leb→le x b (and-left (leb x b) (all≤ b xs) t)
 entry≤ b (x ∷ xs) t (suc k) = entry≤ b xs (and-right (leb x b) (all≤ b xs) t) k
 
+-- ---- a table packed into one number
+
+-- the first entry lowest
+abbrev pub pack : ℕ → List ℕ → ℕ
+pack bits [] = 0
+pack bits (x ∷ xs) = x + 2 ^ bits * pack bits xs
+
+abbrev rows : (ℕ → ℕ) → List ℕ → Bool
+rows f [] = true
+rows f (x ∷ xs) = eqb (f 0) x && rows (λ c. f (suc c)) xs
+
+row : (f : ℕ → ℕ) (t : List ℕ) → T (rows f t) → (c : ℕ) → c < length t → f c ≡ getD t c 0
+row f [] h c l = absurd (omega arith)
+row f (x ∷ t) h zero l = eqb→eq (f 0) x (and-left (eqb (f 0) x) (rows (λ n. f (suc n)) t) h)
+row f (x ∷ t) h (suc c) l = row (λ n. f (suc n)) t (and-right (eqb (f 0) x) (rows (λ n. f (suc n)) t) h) c (omega arith)
+
 -- ---- a table of yes and no
 
-pub ones : (t : List ℕ) (c : ℕ) → eqb (getD t c 0) 1 ≡ getD (answers t) c false
+ones : (t : List ℕ) (c : ℕ) → eqb (getD t c 0) 1 ≡ getD (answers t) c false
 ones [] c = refl
 ones (x ∷ t) zero = refl
 ones (x ∷ t) (suc c) = ones t c
@@ -136,6 +152,37 @@ module _ (c : ℕ) where
       go : (b : Bool) → choose b (λ _. 1) (λ _. 0) ≤ 1
       go true = omega arith
       go false = omega arith
+
+-- ---- up to the last code, from the packed table
+
+module _ (c : ℕ) (h : c ≤ 18) where
+  pub packed-kids : pack 2 kidTable / 2 ^ (2 * c) % 4 ≡ kidsOf c
+  unfolding kidsOf
+  packed-kids = row (λ n. pack 2 kidTable / 2 ^ (2 * n) % 4) kidTable tt c (omega arith)
+
+  pub packed-fields : pack 3 fieldTable / 2 ^ (3 * c) % 8 ≡ fieldOf c
+  unfolding fieldOf
+  packed-fields = row (λ n. pack 3 fieldTable / 2 ^ (3 * n) % 8) fieldTable tt c (omega arith)
+
+  pub packed-bind1 : pack 1 bind1Table / 2 ^ c % 2 ≡ bind1 c
+  unfolding bind1
+  packed-bind1 = row (λ n. pack 1 bind1Table / 2 ^ n % 2) bind1Table tt c (omega arith)
+
+  pub packed-bind2 : pack 1 bind2Table / 2 ^ c % 2 ≡ bind2 c
+  unfolding bind2
+  packed-bind2 = row (λ n. pack 1 bind2Table / 2 ^ n % 2) bind2Table tt c (omega arith)
+
+  pub packed-goes1 : eqb (pack 1 goes1Table / 2 ^ c % 2) 1 ≡ goes1 c
+  unfolding goes1
+  packed-goes1 = ap (λ n. eqb n 1) (row (λ n. pack 1 goes1Table / 2 ^ n % 2) goes1Table tt c (omega arith)) ∙ ones goes1Table c
+
+  pub packed-goes2 : eqb (pack 1 goes2Table / 2 ^ c % 2) 1 ≡ goes2 c
+  unfolding goes2
+  packed-goes2 = ap (λ n. eqb n 1) (row (λ n. pack 1 goes2Table / 2 ^ n % 2) goes2Table tt c (omega arith)) ∙ ones goes2Table c
+
+  pub packed-value : eqb (pack 1 valueTable / 2 ^ c % 2) 1 ≡ isValue c
+  unfolding isValue
+  packed-value = ap (λ n. eqb n 1) (row (λ n. pack 1 valueTable / 2 ^ n % 2) valueTable tt c (omega arith)) ∙ ones valueTable c
 
 -- ---- past the last code
 

@@ -11,6 +11,7 @@ pub mod SectionsLoop
 pub mod Slot
 pub mod Written
 pub mod Put
+pub mod PutBytes
 pub mod PutLoop
 pub mod Splice
 pub mod TermAt

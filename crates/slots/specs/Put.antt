@@ -3,7 +3,7 @@
 use mathlib.Core.Path.{_≡_, sym, _∙_}
 use mathlib.Core.Bool.{Bool, cond, _&&_}
 use mathlib.Core.List.{List, [], _∷_, _++_}
-use Prim.Native.Nat.{ℕ, zero, suc, _+_}
+use Prim.Native.Nat.{ℕ, zero, suc, _+_, _-_}
 use lib.Dec.{eqb, ltb}
 use lib.ListN.{length, getD, take, drop}
 use Rattle.paper.specs.Base.{choose}
@@ -35,16 +35,20 @@ hit s i d = eqb (getD s i 0) 3 && eqb (getD s (i + 1) 0) d
 unfoldable pub spliced : List ℕ → ℕ → ℕ → List ℕ → List ℕ
 spliced src p q mid = take p src ++ (mid ++ drop q src)
 
+-- the bytes from a up to b
+abbrev pub piece : List ℕ → ℕ → ℕ → List ℕ
+piece s a b = take (b - a) (drop a s)
+
 -- ---- the contract
 
 -- with a stack of `room` bytes: nothing, where the bytes are more
 unfoldable pub putIn : ℕ → List ℕ → List ℕ → List ℕ
 putIn room src v = choose (ltb room (length src)) (λ _. []) (λ _. putOf src v)
 
-pub record Put (src v d d′ st st′ : List ℕ) (r : ℕ) : Type 0 where
-  pub written : Written (putIn (length st) src v) d d′ r
+pub record Put (src v d : List ℕ) (at : ℕ) (d′ st st′ : List ℕ) (r : ℕ) : Type 0 where
+  pub written : Written (take at d ++ putIn (length st) src v) d d′ r
   pub stack : st′ ≡ swept (length src) st
 
-pub put-one : {src v d d′ d″ st st′ st″ : List ℕ} {r r′ : ℕ} → Put src v d d′ st st′ r → Put src v d d″ st st″ r′
+pub put-one : {src v d d′ d″ st st′ st″ : List ℕ} {at r r′ : ℕ} → Put src v d at d′ st st′ r → Put src v d at d″ st st″ r′
     → (r ≡ r′) × (d′ ≡ d″) × (st′ ≡ st″)
 put-one a b = let w = written-one (a .written) (b .written) in (w .0, w .1, a .stack ∙ sym (b .stack))

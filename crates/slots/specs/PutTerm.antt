@@ -15,7 +15,7 @@ use Rattle.slots.specs.Codes.{fieldOf, kidsOf, bind1, bind2}
 use Rattle.slots.specs.Walk.{skipOf}
 use Rattle.slots.specs.Due.{Due, due, ended, after, scope-ends}
 use Rattle.slots.specs.Put.{putBytes, putOf, putIn}
-use Rattle.slots.specs.PutLoop.{put-over}
+use Rattle.slots.specs.PutBytes.{put-over}
 use Rattle.slots.specs.TermAt.{some-bytes, skip-term}
 
 variable : (d i : ℕ) (st q : List ℕ) (v : Term) (b : Bool)

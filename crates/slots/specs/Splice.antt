@@ -16,7 +16,7 @@ module _ (s : List ℕ) (n k : ℕ) (e : k ≡ min n (length s)) where
   pub cut-length : k ≡ length (take k s)
   cut-length = sym (length-take-le k s (omega arith))
 
-  cut-first : take k s ≡ take n s
+  pub cut-first : take k s ≡ take n s
   cut-first = go (leb n (length s)) refl
     where
       go : (b : Bool) → leb n (length s) ≡ b → take k s ≡ take n s
@@ -25,6 +25,9 @@ module _ (s : List ℕ) (n k : ℕ) (e : k ≡ min n (length s)) where
           let l = leb-false n (length s) h in
           let z : k ≡ length s = omega arith in
           take-all k s (omega arith) ∙ sym (take-all n s (omega arith))
+
+  pub cut-written : (v : List ℕ) {d : List ℕ} {r : ℕ} → Written (take k s ++ v) s d r → Written (take n s ++ v) s d r
+  cut-written v {d} {r} = subst (λ (x : List ℕ). Written (x ++ v) s d r) cut-first
 
   cut-rest : take (length s - k) (drop k s) ≡ drop n s
   cut-rest = take-all (length s - k) (drop k s) (omega (arith, length-drop k s)) ∙ go (leb n (length s)) refl

@@ -2,7 +2,7 @@
 -- the expression that they make. The answer is how many bytes, or one more than the buffer has where they do not fit.
 use mathlib.Core.Path.{_≡_, refl, sym, ap, _∙_, subst}
 use mathlib.Core.Bool.{Bool, true, false}
-use mathlib.Core.List.{List, [], _++_, append-nil}
+use mathlib.Core.List.{List, [], _++_, append-assoc, append-nil}
 use Prim.Native.Nat.{ℕ, _+_, _-_, _<_, _≤_, min}
 use native.Mathlib.Numerals.{add-one}
 use native.Mathlib.Omega.{arith}
@@ -127,6 +127,15 @@ written-behind {x} {before} {d} {n} s v {d′} {r} w =
           ∙ ap (λ (k : ℕ). take k ((x ++ v) ++ drop (length (x ++ v)) d)) l
           ∙ ap (λ (y : List ℕ). take (length before) ((x ++ v) ++ y)) t;
     }
+
+-- x written behind what stands before `at`, and v behind x
+module _ (d x : List ℕ) (at : ℕ) {d₁ : List ℕ} {r₁ : ℕ} (w : Written (take at d ++ x) d d₁ r₁) (v : List ℕ) where
+  pub both-short : length d < r₁ → Written (take at d ++ (x ++ v)) d d₁ r₁
+  both-short h = subst (λ (y : List ℕ). Written y d d₁ r₁) (append-assoc (take at d) x v) (written-short w h v)
+
+  pub both-written : r₁ ≤ length d → {d₂ : List ℕ} {r₂ : ℕ} → Written (take r₁ d₁ ++ v) d₁ d₂ r₂ → Written (take at d ++ (x ++ v)) d d₂ r₂
+  both-written h {d₂} {r₂} z =
+      subst (λ (y : List ℕ). Written y d d₂ r₂) (append-assoc (take at d) x v) (written-behind (fits-stands (written-fits w h)) v z)
 
 -- ---- the loop of `fill`
 

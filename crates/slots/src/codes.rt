@@ -1,4 +1,5 @@
-// What each code of the erased form has, by tables that a code's number is the place in. A byte that is no code has the tables' default.
+// What each code of the erased form has, by tables of 19 entries packed into one number each, code 00 lowest: a look-up is a shift. A byte that
+// is no code has the tables' default.
 ghost use mathlib.Core.Path.{_≡_};
 ghost use lib.ListN.{getD};
 ghost use Rattle.slots.specs.Codes.{isCode, kidsOf, fieldOf, bind1, bind2, goes1, goes2, isValue, openOf, Told};
@@ -25,8 +26,8 @@ pub(crate) fn kids(c: u8) -> usize
     if 18 < c {
         return 0;
     }
-    let table = b"\x00\x00\x00\x00\x01\x02\x01\x01\x02\x01\x01\x02\x02\x02\x02\x03\x00\x00\x01";
-    wide(table[c as usize])
+    let table: u64 = 0b01_00_00_11_10_10_10_10_01_01_10_01_01_10_01_00_00_00_00;
+    ((table >> (2 * c)) % 4) as usize
 }
 
 // How many bytes of its own between the code and its parts.
@@ -36,8 +37,8 @@ pub(crate) fn fields(c: u8) -> usize
     if 18 < c {
         return 0;
     }
-    let table = b"\x00\x00\x04\x01\x00\x00\x00\x00\x00\x00\x00\x00\x00\x00\x00\x00\x01\x01\x01";
-    wide(table[c as usize])
+    let table: u64 = 0b001_001_001_000_000_000_000_000_000_000_000_000_000_000_000_001_100_000_000;
+    ((table >> (3 * c)) % 8) as usize
 }
 
 // 1 where its first part stands under a binder of it, else 0.
@@ -47,8 +48,8 @@ pub(crate) fn binds1(c: u8) -> usize
     if 18 < c {
         return 0;
     }
-    let table = b"\x00\x00\x00\x00\x01\x00\x00\x00\x00\x00\x01\x00\x00\x00\x00\x00\x00\x00\x00";
-    wide(table[c as usize])
+    let table: u64 = 0b000_0000_0100_0001_0000;
+    ((table >> c) % 2) as usize
 }
 
 // 1 where its second part stands under a binder of it, else 0.
@@ -58,8 +59,8 @@ pub(crate) fn binds2(c: u8) -> usize
     if 18 < c {
         return 0;
     }
-    let table = b"\x00\x00\x00\x00\x00\x00\x00\x00\x00\x00\x00\x00\x01\x00\x00\x00\x00\x00\x00";
-    wide(table[c as usize])
+    let table: u64 = 0b000_0001_0000_0000_0000;
+    ((table >> c) % 2) as usize
 }
 
 // Whether evaluation goes into its first part.
@@ -69,8 +70,8 @@ pub(crate) fn goes_first(c: u8) -> bool
     if 18 < c {
         return false;
     }
-    let table = b"\x00\x00\x00\x00\x00\x01\x01\x01\x01\x00\x00\x01\x01\x01\x01\x01\x00\x00\x01";
-    table[c as usize] == 1
+    let table: u64 = 0b100_1111_1001_1110_0000;
+    (table >> c) % 2 == 1
 }
 
 // Whether evaluation goes into its second part, once the first is a value.
@@ -80,8 +81,8 @@ pub(crate) fn goes_second(c: u8) -> bool
     if 18 < c {
         return false;
     }
-    let table = b"\x00\x00\x00\x00\x00\x01\x00\x00\x01\x00\x00\x00\x00\x00\x01\x00\x00\x00\x00";
-    table[c as usize] == 1
+    let table: u64 = 0b000_0100_0001_0010_0000;
+    (table >> c) % 2 == 1
 }
 
 pub(crate) fn value(c: u8) -> bool
@@ -90,8 +91,8 @@ pub(crate) fn value(c: u8) -> bool
     if 18 < c {
         return false;
     }
-    let table = b"\x00\x01\x01\x00\x01\x00\x00\x00\x00\x00\x00\x00\x00\x00\x00\x00\x01\x01\x00";
-    table[c as usize] == 1
+    let table: u64 = 0b011_0000_0000_0001_0110;
+    (table >> c) % 2 == 1
 }
 
 // 1 for an open section, else 0.

@@ -4,7 +4,7 @@ ghost use mathlib.Core.List.{_++_};
 ghost use Prim.Native.Nat.{_+_, _≤_, _<_, min};
 ghost use lib.ListN.{length, take};
 ghost use Rattle.slots.specs.Written.{Written};
-ghost use Rattle.slots.specs.Put.{hit, putOf, spliced, Put};
+ghost use Rattle.slots.specs.Put.{hit, piece, putOf, spliced, Put};
 use crate::codes::byte;
 use crate::codes::fields;
 use crate::stack::Next;
@@ -20,20 +20,33 @@ fn least(a: usize, b: usize) -> usize
 }
 
 // v into dst from `at` on, as far as there is room: the place after it, or one more than dst's length.
-fn fill(v: &[u8], dst: &mut [u8], at: usize) -> usize
-    requires { ⌜ at ≤ length (now dst) ⌝ }
+pub fn fill(v: &[u8], dst: &mut [u8], at: usize) -> usize
     ensures { λ r. ⌜ Written (take at (now (dst .entry)) ++ now (v .entry)) (now (dst .entry)) (now (dst .exit)) r ⌝ }
 {
-    let n = least(v.len(), dst.len() - at);
+    let from = least(at, dst.len());
+    let n = least(v.len(), dst.len() - from);
     let mut i = 0;
     while i < n {
-        dst[at + i] = v[i];
+        dst[from + i] = v[i];
         i += 1;
     }
     if n < v.len() {
         return dst.len() + 1;
     }
-    at + n
+    from + n
+}
+
+// The bytes of src from a up to b, and v behind them.
+fn fill_both(src: &[u8], a: usize, b: usize, v: &[u8], dst: &mut [u8], at: usize) -> usize
+    requires { ⌜ a ≤ b ⌝ }
+    requires { ⌜ b ≤ length (now src) ⌝ }
+    ensures { λ r. ⌜ Written (take at (now (dst .entry)) ++ (piece (now (src .entry)) a b ++ now (v .entry))) (now (dst .entry)) (now (dst .exit)) r ⌝ }
+{
+    let first = fill(&src[a..b], dst, at);
+    if dst.len() < first {
+        return first;
+    }
+    fill(v, dst, first)
 }
 
 // Whether a variable stands at i, and is d.
@@ -47,59 +60,59 @@ fn is_hit(src: &[u8], i: usize, d: usize) -> bool
     byte(src, i + 1) == d
 }
 
-// v for the outermost variable of the expression that stands first in src, to dst, on a stack as long as src.
-fn pass(src: &[u8], v: &[u8], dst: &mut [u8], stack: &mut [u8]) -> usize
+// v for the outermost variable of the expression that stands first in src, to dst from `at` on, on a stack as long as src. What v is not put
+// into is copied in stretches, each from the last variable that it was put for up to the next.
+fn pass(src: &[u8], v: &[u8], dst: &mut [u8], at: usize, stack: &mut [u8]) -> usize
+    requires { ⌜ at ≤ length (now dst) ⌝ }
     requires { ⌜ length (now stack) ≡ length (now src) ⌝ }
-    ensures { λ r. ⌜ Written (putOf (now (src .entry)) (now (v .entry))) (now (dst .entry)) (now (dst .exit)) r ⌝ }
+    ensures { λ r. ⌜ Written (take at (now (dst .entry)) ++ putOf (now (src .entry)) (now (v .entry))) (now (dst .entry)) (now (dst .exit)) r ⌝ }
 {
     if skip(src, 0) == 0 {
-        return 0;
+        return at;
     }
     let mut next = Next {
         done: false,
         d: 0,
         sp: 0,
     };
-    let mut out: usize = 0;
+    let mut out = at;
+    let mut from: usize = 0;
     let mut i: usize = 0;
     while i < src.len() {
         if next.done {
-            return out;
+            return fill(&src[from..i], dst, out);
         }
         let c = src[i];
         let d = next.d;
         let sp = next.sp;
         if is_hit(src, i, d) {
-            out = fill(v, dst, out);
+            out = fill_both(src, from, i, v, dst, out);
             if dst.len() < out {
                 return out;
             }
             next = ended(stack, sp, d);
             i += 2;
+            from = i;
             continue;
         }
-        let e = i + fields(c) + 1;
-        out = fill(&src[i..e], dst, out);
-        if dst.len() < out {
-            return out;
-        }
         next = after(stack, sp, d, c);
-        i = e;
+        i = i + fields(c) + 1;
     }
-    out
+    fill(&src[from..i], dst, out)
 }
 
-// The bytes of the expression that stands first in src with v for its outermost variable, to dst as far as there is room: how many, or one
-// more than dst's length; none where no expression stands there or the lent stack is shorter than src. The stack is left with zeros where
-// it was used.
-pub fn put(src: &[u8], v: &[u8], dst: &mut [u8], stack: &mut [u8]) -> usize
-    ensures { λ r. ⌜ Put (now (src .entry)) (now (v .entry)) (now (dst .entry)) (now (dst .exit)) (now (stack .entry)) (now (stack .exit)) r ⌝ }
+// The bytes of the expression that stands first in src with v for its outermost variable, to dst from `at` on as far as there is room: the
+// place after them, or one more than dst's length; none where no expression stands there or the lent stack is shorter than src. The stack is
+// left with zeros where it was used.
+pub fn put(src: &[u8], v: &[u8], dst: &mut [u8], at: usize, stack: &mut [u8]) -> usize
+    ensures { λ r. ⌜ Put (now (src .entry)) (now (v .entry)) (now (dst .entry)) at (now (dst .exit)) (now (stack .entry)) (now (stack .exit)) r ⌝ }
 {
     let n = src.len();
+    let from = least(at, dst.len());
     if stack.len() < n {
-        return 0;
+        return from;
     }
-    let r = pass(src, v, dst, &mut stack[..n]);
+    let r = pass(src, v, dst, from, &mut stack[..n]);
     clear(&mut stack[..n]);
     r
 }

@@ -12,12 +12,30 @@ answer-of-requires c κs = search needs
 same-length : tie.Need-same-length
 same-length c = search needs
 
+same-length-2 : tie.Need-same-length-2
+same-length-2 c = search needs
+
+same-length-3 : tie.Need-same-length-3
+same-length-3 c = search needs
+
+same-length-4 : tie.Need-same-length-4
+same-length-4 c = search needs
+
 returns : tie.Need-returns
 returns c =
     let at-answer-of = c in
-    let at-step-held = c .before .before .before in
-    let at-start = c .before .before .before .before .before .before in
-    called (at-start .pre) (at-step-held .step-held .ensures) (at-answer-of .answer-of .ensures)
+    let at-step-held = c .before .before .before .before .before .before .before .before .before in
+    let at-start = c .before .before .before .before .before .before .before .before .before .before .before .before .before .before .before .before .before .before in
+    called (at-start .pre .0) (at-step-held .step-held .ensures) (at-answer-of .answer-of .ensures)
 
 pub call-spec : {M : Type 1} → statement M
-call-spec = tie.close (tie.spec step-held-requires answer-of-requires same-length returns)
+call-spec =
+    tie.close
+    (tie.spec
+    step-held-requires
+    answer-of-requires
+    same-length
+    same-length-2
+    same-length-3
+    same-length-4
+    returns)

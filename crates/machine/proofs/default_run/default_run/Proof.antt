@@ -1,5 +1,5 @@
 -- The ways of `DefaultCalls`.
-use mathlib.Core.Path.{sym, _∙_}
+use mathlib.Core.Path.{refl, sym, _∙_}
 use borrow.Author.Tests.{not-true, not-false}
 use Rattle.paper.specs.States.{sixteen}
 use Rattle.machine.specs.Public.{state-held}
@@ -26,16 +26,24 @@ returns-2 c =
     let at-is-state = c .before in
     let at-if1 = c .before .before .before in
     let at-start = c .before .before .before .before .before in
-    default-runs-foreign (at-start .args .state .now) (at-start .args .limit) (at-if1 .if1 .left)
-    (sym (at-is-state .is-state .ensures .says) ∙ not-true _ (at-if2 .if2 .taken))
+    default-runs-foreign (at-start .args .state .now) (at-start .args .limit) (at-if1 .if1 .left) (sym (at-is-state .is-state .ensures .says) ∙ not-true _ (at-if2 .if2 .taken))
+
+slice-aggregate-default-held : tie.Need-slice-aggregate-default-held
+slice-aggregate-default-held c = search needs
+
+slice-aggregate-default-held-2 : tie.Need-slice-aggregate-default-held-2
+slice-aggregate-default-held-2 c = search needs
+
+slice-aggregate-default-held-3 : tie.Need-slice-aggregate-default-held-3
+slice-aggregate-default-held-3 c = search needs
 
 default-held-requires : tie.Need-default-held-requires
 unfolding sixteen
 default-held-requires c κs =
-    let at-if2 = c .before in
-    let at-is-state = c .before .before in
-    let at-start = c .before .before .before .before .before .before in
-    state-held (at-start .args .state .now) (sym (at-is-state .is-state .ensures .says) ∙ not-false _ (at-if2 .if2 .left))
+    let at-if2 = c .before .before .before .before in
+    let at-is-state = c .before .before .before .before .before in
+    let at-start = c .before .before .before .before .before .before .before .before .before in
+    (state-held (at-start .args .state .now) (sym (at-is-state .is-state .ensures .says) ∙ not-false _ (at-if2 .if2 .left)), record { copy = refl; after = refl; deep = refl })
 
 same-length-2 : tie.Need-same-length-2
 same-length-2 c = search needs
@@ -43,7 +51,7 @@ same-length-2 c = search needs
 returns-3 : tie.Need-returns-3
 unfolding sixteen
 returns-3 c =
-    let at-default-held = c .before .before in
+    let at-default-held = c .before .before .before .before .before in
     at-default-held .default-held .ensures
 
 pub default-run-spec : {M : Type 1} → statement M
@@ -54,6 +62,9 @@ default-run-spec =
     is-state-requires
     same-length
     returns-2
+    slice-aggregate-default-held
+    slice-aggregate-default-held-2
+    slice-aggregate-default-held-3
     default-held-requires
     same-length-2
     returns-3)

@@ -9,16 +9,23 @@ use Rattle.machine.proofs.dispatch.act.Statement.{statement}
 use Rattle.machine.proofs.dispatch.act.Tie as tie
 
 shared-slice-read-c : tie.Need-shared-slice-read-c
-shared-slice-read-c c = let k = part-cut (c .before .before .before .before .pre .0 .there) in omega arith
+shared-slice-read-c c = let k =
+    let at-start = c .before .before .before .before .before in
+    part-cut (at-start .pre .0 .there) in omega arith
 
 add-f : tie.Need-add-f
-add-f c = let k = part-cut (c .before .before .before .before .pre .0 .there) in omega arith
+add-f c = let k =
+    let at-start = c .before .before .before .before .before in
+    part-cut (at-start .pre .0 .there) in omega arith
 
 byte-at-requires : tie.Need-byte-at-requires
 byte-at-requires c κs = search needs
 
 make-cell-requires : tie.Need-make-cell-requires
-make-cell-requires c κs = one-cut (c .before .before .before .before .before .before .before .pre .0) of-cell (c .before .before .if1 .taken)
+make-cell-requires c κs =
+    let at-if1 = c .before .before in
+    let at-start = c .before .before .before .before .before .before .before .before in
+    one-cut (at-start .pre .0) of-cell (at-if1 .if1 .taken)
 
 same-length : tie.Need-same-length
 same-length c = search needs
@@ -28,22 +35,26 @@ returns c =
     let at-make-cell = c .before .before in
     let at-byte-at = c .before .before .before .before in
     let at-if1 = c .before .before .before .before .before in
-    let at-start = c .before .before .before .before .before .before .before .before .before .before in
+    let at-start = c .before .before .before .before .before .before .before .before .before .before .before in
     acts-cell (at-start .pre .1 .1) (at-if1 .if1 .taken) (at-byte-at .byte-at .ensures) (at-make-cell .make-cell .ensures)
 
 mul-from : tie.Need-mul-from
 unfolding total
-mul-from c = let z = c .before .before .before .before .before .before .before .pre .1 .1 .size in omega arith
+mul-from c = let z =
+    let at-start = c .before .before .before .before .before .before .before .before in
+    at-start .pre .1 .1 .size in omega arith
 
 add-from : tie.Need-add-from
 unfolding total
-add-from c = let z = c .before .before .before .before .before .before .before .pre .1 .1 .size in omega arith
+add-from c = let z =
+    let at-start = c .before .before .before .before .before .before .before .before in
+    at-start .pre .1 .1 .size in omega arith
 
 read-requires : tie.Need-read-requires
 unfolding total
 read-requires c κs =
     let at-if2 = c .before .before in
-    let at-start = c .before .before .before .before .before .before .before .before in
+    let at-start = c .before .before .before .before .before .before .before .before .before in
     let z = at-start .pre .1 .1 .size in (one-cut (at-start .pre .0) of-read (at-if2 .if2 .taken), record { low = omega arith; small = at-start .pre .1 .1 .cellBytes })
 
 same-length-2 : tie.Need-same-length-2
@@ -53,7 +64,7 @@ returns-2 : tie.Need-returns-2
 returns-2 c =
     let at-read = c .before .before in
     let at-if2 = c .before .before .before .before .before in
-    let at-start = c .before .before .before .before .before .before .before .before .before .before .before in
+    let at-start = c .before .before .before .before .before .before .before .before .before .before .before .before in
     acts-read (at-start .pre .1 .1) (at-if2 .if2 .taken) (at-read .read .ensures)
 
 byte-at-requires-2 : tie.Need-byte-at-requires-2
@@ -70,7 +81,7 @@ returns-3 c =
     let at-fork = c .before .before in
     let at-byte-at2 = c .before .before .before .before in
     let at-if3 = c .before .before .before .before .before in
-    let at-start = c .before .before .before .before .before .before .before .before .before .before .before .before in
+    let at-start = c .before .before .before .before .before .before .before .before .before .before .before .before .before in
     acts-fork (at-start .pre .1 .1) (at-if3 .if3 .taken) (at-byte-at2 .byte-at2 .ensures) (at-fork .fork .ensures)
 
 byte-at-requires-3 : tie.Need-byte-at-requires-3
@@ -78,54 +89,61 @@ byte-at-requires-3 c κs = search needs
 
 make-lock-requires : tie.Need-make-lock-requires
 make-lock-requires c κs =
-    let at-if4 = c .before .before in
-    let at-start = c .before .before .before .before .before .before .before .before .before .before in
-    (one-cut (at-start .pre .0) of-newlock (at-if4 .if4 .taken), at-start .pre .1 .0)
+    let at-if4 = c .before .before .before in
+    let at-start = c .before .before .before .before .before .before .before .before .before .before .before .before in
+    (one-cut (at-start .pre .0) of-newlock (at-if4 .if4 .taken), (omega arith, at-start .pre .1 .0))
 
 same-length-4 : tie.Need-same-length-4
 same-length-4 c = search needs
 
+same-length-5 : tie.Need-same-length-5
+same-length-5 c = search needs
+
 returns-4 : tie.Need-returns-4
 returns-4 c =
-    let at-make-lock = c .before .before in
-    let at-byte-at3 = c .before .before .before .before in
-    let at-if4 = c .before .before .before .before .before in
-    let at-start = c .before .before .before .before .before .before .before .before .before .before .before .before .before in
+    let at-make-lock = c .before .before .before .before in
+    let at-byte-at3 = c .before .before .before .before .before .before .before in
+    let at-if4 = c .before .before .before .before .before .before .before .before in
+    let at-start = c .before .before .before .before .before .before .before .before .before .before .before .before .before .before .before .before .before in
     acts-newlock (at-start .pre .1 .1) (at-if4 .if4 .taken) (at-byte-at3 .byte-at3 .ensures) (at-make-lock .make-lock .ensures)
 
 add-release : tie.Need-add-release
 add-release c =
-    let at-start = c .before .before .before .before .before .before .before .before .before in
-    let k = section-cut (at-start .pre .0) (c .if5 .taken) in omega arith
+    let at-if5 = c in
+    let at-start = c .before .before .before .before .before .before .before .before .before .before in
+    let k = section-cut (at-start .pre .0) (at-if5 .if5 .taken) in omega arith
 
 release-requires : tie.Need-release-requires
 release-requires c κs =
     let at-if5 = c .before in
-    let at-start = c .before .before .before .before .before .before .before .before .before .before in
+    let at-start = c .before .before .before .before .before .before .before .before .before .before .before in
     (section-cut (at-start .pre .0) (at-if5 .if5 .taken), omega arith)
 
-same-length-5 : tie.Need-same-length-5
-same-length-5 c = search needs
+same-length-6 : tie.Need-same-length-6
+same-length-6 c = search needs
 
 returns-5 : tie.Need-returns-5
 returns-5 c =
     let at-release = c .before .before in
     let at-if5 = c .before .before .before .before in
-    let at-start = c .before .before .before .before .before .before .before .before .before .before .before .before .before in
+    let at-start = c .before .before .before .before .before .before .before .before .before .before .before .before .before .before in
     acts-release (at-start .pre .1 .1) (at-if5 .if5 .taken) (at-release .release .ensures)
 
 act-on-more-requires : tie.Need-act-on-more-requires
 act-on-more-requires c κs =
-    let at-if5 = c .before in
-    let at-if4 = c .before .before in
-    let at-if3 = c .before .before .before in
-    let at-if2 = c .before .before .before .before in
-    let at-if1 = c .before .before .before .before .before in
-    let at-start = c .before .before .before .before .before .before .before .before .before .before in
+    let at-if5 = c .before .before in
+    let at-if4 = c .before .before .before in
+    let at-if3 = c .before .before .before .before in
+    let at-if2 = c .before .before .before .before .before in
+    let at-if1 = c .before .before .before .before .before .before in
+    let at-start = c .before .before .before .before .before .before .before .before .before .before .before .before in
     (at-start .pre .0, (at-start .pre .1 .0, (at-start .pre .1 .1, record { no-cell = at-if1 .if1 .left; no-read = at-if2 .if2 .left; no-fork = at-if3 .if3 .left; no-lock = at-if4 .if4 .left; no-section = at-if5 .if5 .left })))
 
-same-length-6 : tie.Need-same-length-6
-same-length-6 c = search needs
+same-length-7 : tie.Need-same-length-7
+same-length-7 c = search needs
+
+same-length-8 : tie.Need-same-length-8
+same-length-8 c = search needs
 
 returns-6 : tie.Need-returns-6
 returns-6 c = search needs
@@ -152,11 +170,13 @@ act-spec =
     byte-at-requires-3
     make-lock-requires
     same-length-4
+    same-length-5
     returns-4
     add-release
     release-requires
-    same-length-5
+    same-length-6
     returns-5
     act-on-more-requires
-    same-length-6
+    same-length-7
+    same-length-8
     returns-6)

@@ -8,7 +8,9 @@ shared-slice-read-if1 : tie.Need-shared-slice-read-if1
 shared-slice-read-if1 c = search needs
 
 returns : tie.Need-returns
-returns c = apply-stuck (c .if1 .taken)
+returns c =
+    let at-if1 = c in
+    apply-stuck (at-if1 .if1 .taken)
 
 add-b : tie.Need-add-b
 add-b c = search needs
@@ -37,8 +39,14 @@ put-in-requires c κs = search needs
 same-length : tie.Need-same-length
 same-length c = search needs
 
+same-length-2 : tie.Need-same-length-2
+same-length-2 c = search needs
+
 returns-2 : tie.Need-returns-2
-returns-2 c = apply-done (c .before .before .before .before .before .before .if1 .left) (c .before .before .put-in .ensures)
+returns-2 c =
+    let at-put-in = c .before .before .before .before in
+    let at-if1 = c .before .before .before .before .before .before .before .before .before in
+    apply-done (at-if1 .if1 .left) (at-put-in .put-in .ensures)
 
 pub apply-spec : {M : Type 1} → statement M
 apply-spec =
@@ -55,4 +63,5 @@ apply-spec =
     part-put-in-end-2
     put-in-requires
     same-length
+    same-length-2
     returns-2)

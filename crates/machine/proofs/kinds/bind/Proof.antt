@@ -28,8 +28,13 @@ put-in-requires c κs = search needs
 same-length : tie.Need-same-length
 same-length c = search needs
 
+same-length-2 : tie.Need-same-length-2
+same-length-2 c = search needs
+
 returns : tie.Need-returns
-returns c = bind-done (c .before .before .put-in .ensures)
+returns c =
+    let at-put-in = c .before .before .before .before in
+    bind-done (at-put-in .put-in .ensures)
 
 pub bind-spec : {M : Type 1} → statement M
 bind-spec =
@@ -43,4 +48,5 @@ bind-spec =
     part-put-in-end-2
     put-in-requires
     same-length
+    same-length-2
     returns)

@@ -5,7 +5,9 @@ use Rattle.machine.proofs.kinds.make_lock.Statement.{statement}
 use Rattle.machine.proofs.kinds.make_lock.Tie as tie
 
 returns : tie.Need-returns
-returns c = lock-full (c .if1 .taken)
+returns c =
+    let at-if1 = c in
+    lock-full (at-if1 .if1 .taken)
 
 sub-put-in : tie.Need-sub-put-in
 sub-put-in c = search needs
@@ -25,8 +27,14 @@ put-in-requires c κs = search needs
 same-length : tie.Need-same-length
 same-length c = search needs
 
+same-length-2 : tie.Need-same-length-2
+same-length-2 c = search needs
+
 returns-2 : tie.Need-returns-2
-returns-2 c = lock-made (c .before .before .before .before .before .before .if1 .left) (c .before .before .put-in .ensures)
+returns-2 c =
+    let at-put-in = c .before .before .before .before in
+    let at-if1 = c .before .before .before .before .before .before .before .before .before in
+    lock-made (at-if1 .if1 .left) (at-put-in .put-in .ensures)
 
 pub make-lock-spec : {M : Type 1} → statement M
 make-lock-spec =
@@ -39,4 +47,5 @@ make-lock-spec =
     slice-aggregate-put-in
     put-in-requires
     same-length
+    same-length-2
     returns-2)

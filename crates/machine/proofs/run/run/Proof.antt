@@ -1,5 +1,5 @@
 -- The ways of `RunCalls`.
-use mathlib.Core.Path.{sym, _∙_}
+use mathlib.Core.Path.{refl, sym, _∙_}
 use borrow.Author.Tests.{not-true, not-false}
 use Rattle.paper.specs.States.{sixteen}
 use Rattle.machine.specs.Public.{state-held}
@@ -42,16 +42,24 @@ returns-3 c =
     let at-if2 = c .before .before .before .before in
     let at-if1 = c .before .before .before .before .before in
     let at-start = c .before .before .before .before .before .before .before .before in
-    runs-foreign (at-start .args .state .now) (at-start .args .schedule .now) (at-if1 .if1 .left) (at-if2 .if2 .left)
-    (sym (at-is-state .is-state .ensures .says) ∙ not-true _ (at-if3 .if3 .taken)) (at-answer-of2 .answer-of2 .ensures)
+    runs-foreign (at-start .args .state .now) (at-start .args .schedule .now) (at-if1 .if1 .left) (at-if2 .if2 .left) (sym (at-is-state .is-state .ensures .says) ∙ not-true _ (at-if3 .if3 .taken)) (at-answer-of2 .answer-of2 .ensures)
+
+slice-aggregate-run-held : tie.Need-slice-aggregate-run-held
+slice-aggregate-run-held c = search needs
+
+slice-aggregate-run-held-2 : tie.Need-slice-aggregate-run-held-2
+slice-aggregate-run-held-2 c = search needs
+
+slice-aggregate-run-held-3 : tie.Need-slice-aggregate-run-held-3
+slice-aggregate-run-held-3 c = search needs
 
 run-held-requires : tie.Need-run-held-requires
 unfolding sixteen
 run-held-requires c κs =
-    let at-if3 = c .before in
-    let at-is-state = c .before .before in
-    let at-start = c .before .before .before .before .before .before .before .before in
-    state-held (at-start .args .state .now) (sym (at-is-state .is-state .ensures .says) ∙ not-false _ (at-if3 .if3 .left))
+    let at-if3 = c .before .before .before .before in
+    let at-is-state = c .before .before .before .before .before in
+    let at-start = c .before .before .before .before .before .before .before .before .before .before .before in
+    (state-held (at-start .args .state .now) (sym (at-is-state .is-state .ensures .says) ∙ not-false _ (at-if3 .if3 .left)), record { copy = refl; after = refl; deep = refl })
 
 same-length-2 : tie.Need-same-length-2
 same-length-2 c = search needs
@@ -59,7 +67,7 @@ same-length-2 c = search needs
 returns-4 : tie.Need-returns-4
 unfolding sixteen
 returns-4 c =
-    let at-run-held = c .before .before in
+    let at-run-held = c .before .before .before .before .before in
     at-run-held .run-held .ensures
 
 pub run-spec : {M : Type 1} → statement M
@@ -73,6 +81,9 @@ run-spec =
     answer-of-requires-2
     same-length
     returns-3
+    slice-aggregate-run-held
+    slice-aggregate-run-held-2
+    slice-aggregate-run-held-3
     run-held-requires
     same-length-2
     returns-4)

@@ -9,13 +9,19 @@ use Rattle.machine.proofs.step.run_thread.Statement.{statement}
 use Rattle.machine.proofs.step.run_thread.Tie as tie
 
 shared-slice-read-is-value : tie.Need-shared-slice-read-is-value
-shared-slice-read-is-value c = thread-some (c .before .before .before .before .pre)
+shared-slice-read-is-value c =
+    let at-start = c .before .before .before .before .before in
+    thread-some (at-start .pre)
 
 is-value-requires : tie.Need-is-value-requires
 is-value-requires c κs = search needs
 
 returns : tie.Need-returns
-returns c = run-finished (c .before .before .before .before .before .before .pre) (c .before .is-value .ensures) (c .if1 .taken)
+returns c =
+    let at-if1 = c in
+    let at-is-value = c .before in
+    let at-start = c .before .before .before .before .before .before .before in
+    run-finished (at-start .pre) (at-is-value .is-value .ensures) (at-if1 .if1 .taken)
 
 place-requires : tie.Need-place-requires
 place-requires c κs = search needs
@@ -25,9 +31,9 @@ skip-requires c κs = search needs
 
 act-requires : tie.Need-act-requires
 act-requires c κs =
-    let at-skip = c .before .before in
-    let at-place = c .before .before .before in
-    let at-start = c .before .before .before .before .before .before .before .before .before .before in
+    let at-skip = c .before .before .before in
+    let at-place = c .before .before .before .before in
+    let at-start = c .before .before .before .before .before .before .before .before .before .before .before .before in
     (run-redex (at-start .pre) (at-place .place .ensures .says) (at-skip .skip .ensures .says), (thread-short (at-start .pre), at-start .pre .base .fits))
 
 enum-told : tie.Need-enum-told
@@ -51,54 +57,50 @@ same-length c = search needs
 same-length-2 : tie.Need-same-length-2
 same-length-2 c = search needs
 
+same-length-3 : tie.Need-same-length-3
+same-length-3 c = search needs
+
 returns-2 : tie.Need-returns-2
 returns-2 c =
+    let at-if2 = c in
     let at-kind = c .before .before in
-    let at-act = c .before .before .before .before .before .before in
-    let at-skip = c .before .before .before .before .before .before .before .before .before in
-    let at-place = c .before .before .before .before .before .before .before .before .before .before in
-    let at-if1 = c .before .before .before .before .before .before .before .before .before .before .before in
-    let at-is-value = c .before .before .before .before .before .before .before .before .before .before .before .before in
-    let at-start = c .before .before .before .before .before .before .before .before .before .before .before .before .before .before .before .before .before in
-    run-outgrows (at-start .pre) (at-place .place .ensures .says) (at-skip .skip .ensures .says) (at-is-value .is-value .ensures) (at-if1 .if1 .left) (at-act .act .ensures) (at-kind .kind .given .1) (omega (arith, c .if2 .taken, at-act .act .kept .1 .1 .1 .1 .1 .0))
+    let at-act = c .before .before .before .before .before .before .before .before in
+    let at-skip = c .before .before .before .before .before .before .before .before .before .before .before .before in
+    let at-place = c .before .before .before .before .before .before .before .before .before .before .before .before .before in
+    let at-if1 = c .before .before .before .before .before .before .before .before .before .before .before .before .before .before in
+    let at-is-value = c .before .before .before .before .before .before .before .before .before .before .before .before .before .before .before in
+    let at-start = c .before .before .before .before .before .before .before .before .before .before .before .before .before .before .before .before .before .before .before .before .before in
+    run-outgrows (at-start .pre) (at-place .place .ensures .says) (at-skip .skip .ensures .says) (at-is-value .is-value .ensures) (at-if1 .if1 .left) (at-act .act .ensures) (at-kind .kind .given .1) (omega (arith, at-if2 .if2 .taken, at-act .act .kept .1 .1 .1 .1 .1 .0))
 
 change-requires : tie.Need-change-requires
 change-requires c κs =
     let at-kind = c .before .before .before in
-    let at-act = c .before .before .before .before .before .before .before in
-    let at-skip = c .before .before .before .before .before .before .before .before .before .before in
-    let at-place = c .before .before .before .before .before .before .before .before .before .before .before in
-    let at-if1 = c .before .before .before .before .before .before .before .before .before .before .before .before in
-    let at-is-value = c .before .before .before .before .before .before .before .before .before .before .before .before .before in
-    let at-start = c .before .before .before .before .before .before .before .before .before .before .before .before .before .before .before .before .before .before in
+    let at-act = c .before .before .before .before .before .before .before .before .before in
+    let at-skip = c .before .before .before .before .before .before .before .before .before .before .before .before .before in
+    let at-place = c .before .before .before .before .before .before .before .before .before .before .before .before .before .before in
+    let at-if1 = c .before .before .before .before .before .before .before .before .before .before .before .before .before .before .before in
+    let at-is-value = c .before .before .before .before .before .before .before .before .before .before .before .before .before .before .before .before in
+    let at-start = c .before .before .before .before .before .before .before .before .before .before .before .before .before .before .before .before .before .before .before .before .before .before in
     (at-start .pre .base .fits, run-altering (at-start .pre) (at-place .place .ensures .says) (at-skip .skip .ensures .says) (at-is-value .is-value .ensures) (at-if1 .if1 .left) (at-act .act .ensures) (at-kind .kind .given .1))
+
+most-requires : tie.Need-most-requires
+most-requires c κs = search needs
 
 slice-reshare-prefix-set-thread : tie.Need-slice-reshare-prefix-set-thread
 slice-reshare-prefix-set-thread c = search needs
 
 slice-aggregate-set-thread : tie.Need-slice-aggregate-set-thread
-slice-aggregate-set-thread c = sym (length-take-le _ _ (c .before .before .before .before .before .before .if2 .left))
+slice-aggregate-set-thread c =
+    let at-if2 = c .before .before .before .before .before .before .before in
+    sym (length-take-le _ _ (at-if2 .if2 .left))
 
 set-thread-requires : tie.Need-set-thread-requires
 set-thread-requires c κs =
-    let at-start = c .before .before .before .before .before .before .before .before .before .before .before .before .before .before .before .before .before .before .before .before .before .before .before in
+    let at-start = c .before .before .before .before .before .before .before .before .before .before .before .before .before .before .before .before .before .before .before .before .before .before .before .before .before .before .before .before in
     (at-start .pre .base .fits, thread-low (at-start .pre))
-
-same-length-3 : tie.Need-same-length-3
-same-length-3 c = search needs
 
 same-length-4 : tie.Need-same-length-4
 same-length-4 c = search needs
-
-returns-3 : tie.Need-returns-3
-returns-3 c =
-    let at-act = c .before .before .before .before in
-    let at-skip = c .before .before .before .before .before .before .before in
-    let at-place = c .before .before .before .before .before .before .before .before in
-    let at-if1 = c .before .before .before .before .before .before .before .before .before in
-    let at-is-value = c .before .before .before .before .before .before .before .before .before .before in
-    let at-start = c .before .before .before .before .before .before .before .before .before .before .before .before .before .before .before in
-    run-stuck (at-start .pre) (at-place .place .ensures .says) (at-skip .skip .ensures .says) (at-is-value .is-value .ensures) (at-if1 .if1 .left) (at-act .act .ensures) (c .enum-told .given .1)
 
 same-length-5 : tie.Need-same-length-5
 same-length-5 c = search needs
@@ -106,15 +108,16 @@ same-length-5 c = search needs
 same-length-6 : tie.Need-same-length-6
 same-length-6 c = search needs
 
-returns-4 : tie.Need-returns-4
-returns-4 c =
-    let at-act = c .before .before .before .before in
-    let at-skip = c .before .before .before .before .before .before .before in
-    let at-place = c .before .before .before .before .before .before .before .before in
-    let at-if1 = c .before .before .before .before .before .before .before .before .before in
-    let at-is-value = c .before .before .before .before .before .before .before .before .before .before in
-    let at-start = c .before .before .before .before .before .before .before .before .before .before .before .before .before .before .before in
-    run-full (at-start .pre) (at-place .place .ensures .says) (at-skip .skip .ensures .says) (at-is-value .is-value .ensures) (at-if1 .if1 .left) (at-act .act .ensures) (c .enum-told2 .given .1)
+returns-3 : tie.Need-returns-3
+returns-3 c =
+    let at-enum-told = c in
+    let at-act = c .before .before .before .before .before .before in
+    let at-skip = c .before .before .before .before .before .before .before .before .before .before in
+    let at-place = c .before .before .before .before .before .before .before .before .before .before .before in
+    let at-if1 = c .before .before .before .before .before .before .before .before .before .before .before .before in
+    let at-is-value = c .before .before .before .before .before .before .before .before .before .before .before .before .before in
+    let at-start = c .before .before .before .before .before .before .before .before .before .before .before .before .before .before .before .before .before .before .before in
+    run-stuck (at-start .pre) (at-place .place .ensures .says) (at-skip .skip .ensures .says) (at-is-value .is-value .ensures) (at-if1 .if1 .left) (at-act .act .ensures) (at-enum-told .enum-told .given .1)
 
 same-length-7 : tie.Need-same-length-7
 same-length-7 c = search needs
@@ -122,32 +125,22 @@ same-length-7 c = search needs
 same-length-8 : tie.Need-same-length-8
 same-length-8 c = search needs
 
-returns-5 : tie.Need-returns-5
-returns-5 c =
-    let at-act = c .before .before .before .before in
-    let at-skip = c .before .before .before .before .before .before .before in
-    let at-place = c .before .before .before .before .before .before .before .before in
-    let at-if1 = c .before .before .before .before .before .before .before .before .before in
-    let at-is-value = c .before .before .before .before .before .before .before .before .before .before in
-    let at-start = c .before .before .before .before .before .before .before .before .before .before .before .before .before .before .before in
-    run-long (at-start .pre) (at-place .place .ensures .says) (at-skip .skip .ensures .says) (at-is-value .is-value .ensures) (at-if1 .if1 .left) (at-act .act .ensures) (c .enum-told3 .given .1)
-
 same-length-9 : tie.Need-same-length-9
 same-length-9 c = search needs
 
+returns-4 : tie.Need-returns-4
+returns-4 c =
+    let at-enum-told2 = c in
+    let at-act = c .before .before .before .before .before .before in
+    let at-skip = c .before .before .before .before .before .before .before .before .before .before in
+    let at-place = c .before .before .before .before .before .before .before .before .before .before .before in
+    let at-if1 = c .before .before .before .before .before .before .before .before .before .before .before .before in
+    let at-is-value = c .before .before .before .before .before .before .before .before .before .before .before .before .before in
+    let at-start = c .before .before .before .before .before .before .before .before .before .before .before .before .before .before .before .before .before .before .before in
+    run-full (at-start .pre) (at-place .place .ensures .says) (at-skip .skip .ensures .says) (at-is-value .is-value .ensures) (at-if1 .if1 .left) (at-act .act .ensures) (at-enum-told2 .enum-told2 .given .1)
+
 same-length-10 : tie.Need-same-length-10
 same-length-10 c = search needs
-
-returns-6 : tie.Need-returns-6
-returns-6 c =
-    let at-l = c .before in
-    let at-act = c .before .before .before .before .before in
-    let at-skip = c .before .before .before .before .before .before .before .before in
-    let at-place = c .before .before .before .before .before .before .before .before .before in
-    let at-if1 = c .before .before .before .before .before .before .before .before .before .before in
-    let at-is-value = c .before .before .before .before .before .before .before .before .before .before .before in
-    let at-start = c .before .before .before .before .before .before .before .before .before .before .before .before .before .before .before .before in
-    run-waits (at-start .pre) (at-place .place .ensures .says) (at-skip .skip .ensures .says) (at-is-value .is-value .ensures) (at-if1 .if1 .left) (at-act .act .ensures) (at-l .l .given .1)
 
 same-length-11 : tie.Need-same-length-11
 same-length-11 c = search needs
@@ -155,19 +148,60 @@ same-length-11 c = search needs
 same-length-12 : tie.Need-same-length-12
 same-length-12 c = search needs
 
+returns-5 : tie.Need-returns-5
+returns-5 c =
+    let at-enum-told3 = c in
+    let at-act = c .before .before .before .before .before .before in
+    let at-skip = c .before .before .before .before .before .before .before .before .before .before in
+    let at-place = c .before .before .before .before .before .before .before .before .before .before .before in
+    let at-if1 = c .before .before .before .before .before .before .before .before .before .before .before .before in
+    let at-is-value = c .before .before .before .before .before .before .before .before .before .before .before .before .before in
+    let at-start = c .before .before .before .before .before .before .before .before .before .before .before .before .before .before .before .before .before .before .before in
+    run-long (at-start .pre) (at-place .place .ensures .says) (at-skip .skip .ensures .says) (at-is-value .is-value .ensures) (at-if1 .if1 .left) (at-act .act .ensures) (at-enum-told3 .enum-told3 .given .1)
+
+same-length-13 : tie.Need-same-length-13
+same-length-13 c = search needs
+
+same-length-14 : tie.Need-same-length-14
+same-length-14 c = search needs
+
+same-length-15 : tie.Need-same-length-15
+same-length-15 c = search needs
+
+returns-6 : tie.Need-returns-6
+returns-6 c =
+    let at-l = c .before in
+    let at-act = c .before .before .before .before .before .before .before in
+    let at-skip = c .before .before .before .before .before .before .before .before .before .before .before in
+    let at-place = c .before .before .before .before .before .before .before .before .before .before .before .before in
+    let at-if1 = c .before .before .before .before .before .before .before .before .before .before .before .before .before in
+    let at-is-value = c .before .before .before .before .before .before .before .before .before .before .before .before .before .before in
+    let at-start = c .before .before .before .before .before .before .before .before .before .before .before .before .before .before .before .before .before .before .before .before in
+    run-waits (at-start .pre) (at-place .place .ensures .says) (at-skip .skip .ensures .says) (at-is-value .is-value .ensures) (at-if1 .if1 .left) (at-act .act .ensures) (at-l .l .given .1)
+
+same-length-16 : tie.Need-same-length-16
+same-length-16 c = search needs
+
+same-length-17 : tie.Need-same-length-17
+same-length-17 c = search needs
+
+same-length-18 : tie.Need-same-length-18
+same-length-18 c = search needs
+
 returns-7 : tie.Need-returns-7
 returns-7 c =
     let at-set-thread = c .before .before in
-    let at-change = c .before .before .before .before .before .before .before in
-    let at-if2 = c .before .before .before .before .before .before .before .before .before in
-    let at-kind = c .before .before .before .before .before .before .before .before .before .before .before in
-    let at-act = c .before .before .before .before .before .before .before .before .before .before .before .before .before .before .before in
-    let at-skip = c .before .before .before .before .before .before .before .before .before .before .before .before .before .before .before .before .before .before in
-    let at-place = c .before .before .before .before .before .before .before .before .before .before .before .before .before .before .before .before .before .before .before in
-    let at-if1 = c .before .before .before .before .before .before .before .before .before .before .before .before .before .before .before .before .before .before .before .before in
-    let at-is-value = c .before .before .before .before .before .before .before .before .before .before .before .before .before .before .before .before .before .before .before .before .before in
-    let at-start = c .before .before .before .before .before .before .before .before .before .before .before .before .before .before .before .before .before .before .before .before .before .before .before .before .before .before in
-    run-made (at-start .pre) (at-place .place .ensures .says) (at-skip .skip .ensures .says) (at-is-value .is-value .ensures) (at-if1 .if1 .left) (at-act .act .ensures) (at-kind .kind .given .1) (omega (arith, at-if2 .if2 .left, at-act .act .kept .1 .1 .1 .1 .1 .0)) (at-change .change .kept .0) (at-change .change .ensures) (at-set-thread .set-thread .ensures)
+    let at-most = c .before .before .before .before .before in
+    let at-change = c .before .before .before .before .before .before .before .before in
+    let at-if2 = c .before .before .before .before .before .before .before .before .before .before in
+    let at-kind = c .before .before .before .before .before .before .before .before .before .before .before .before in
+    let at-act = c .before .before .before .before .before .before .before .before .before .before .before .before .before .before .before .before .before .before in
+    let at-skip = c .before .before .before .before .before .before .before .before .before .before .before .before .before .before .before .before .before .before .before .before .before .before in
+    let at-place = c .before .before .before .before .before .before .before .before .before .before .before .before .before .before .before .before .before .before .before .before .before .before .before in
+    let at-if1 = c .before .before .before .before .before .before .before .before .before .before .before .before .before .before .before .before .before .before .before .before .before .before .before .before in
+    let at-is-value = c .before .before .before .before .before .before .before .before .before .before .before .before .before .before .before .before .before .before .before .before .before .before .before .before .before in
+    let at-start = c .before .before .before .before .before .before .before .before .before .before .before .before .before .before .before .before .before .before .before .before .before .before .before .before .before .before .before .before .before .before .before in
+    run-made (at-start .pre) (at-place .place .ensures .says) (at-skip .skip .ensures .says) (at-is-value .is-value .ensures) (at-if1 .if1 .left) (at-act .act .ensures) (at-kind .kind .given .1) (omega (arith, at-if2 .if2 .left, at-act .act .kept .1 .1 .1 .1 .1 .0)) (at-change .change .kept .0) (at-change .change .ensures) (at-most .most .ensures) (at-set-thread .set-thread .ensures)
 
 pub run-thread-spec : {M : Type 1} → statement M
 run-thread-spec =
@@ -186,23 +220,30 @@ run-thread-spec =
     enum-known-kind
     same-length
     same-length-2
+    same-length-3
     returns-2
     change-requires
+    most-requires
     slice-reshare-prefix-set-thread
     slice-aggregate-set-thread
     set-thread-requires
-    same-length-3
     same-length-4
-    returns-3
     same-length-5
     same-length-6
-    returns-4
+    returns-3
     same-length-7
     same-length-8
-    returns-5
     same-length-9
+    returns-4
     same-length-10
-    returns-6
     same-length-11
     same-length-12
+    returns-5
+    same-length-13
+    same-length-14
+    same-length-15
+    returns-6
+    same-length-16
+    same-length-17
+    same-length-18
     returns-7)

@@ -1,7 +1,7 @@
--- The table is `fieldOf`'s own.
+-- The packed table is `fieldOf`'s own.
 use mathlib.Core.Path.{sym}
 use native.Mathlib.Omega.{arith}
-use Rattle.slots.specs.Codes.{fieldOf, fields≤, past-fields}
+use Rattle.slots.specs.Codes.{fields≤, past-fields, packed-fields}
 use borrow.Author.Needs.{needs}
 use Rattle.slots.proofs.codes.fields.Statement.{statement}
 use Rattle.slots.proofs.codes.fields.Tie as tie
@@ -9,18 +9,20 @@ use Rattle.slots.proofs.codes.fields.Tie as tie
 returns : tie.Need-returns
 returns c = record { says = sym (past-fields _ (c .if1 .taken)); small = omega arith }
 
-element-copy-out-wide : tie.Need-element-copy-out-wide
-element-copy-out-wide c = search needs
+mul-result : tie.Need-mul-result
+mul-result c = search needs
 
-wide-requires : tie.Need-wide-requires
-wide-requires c κs = search needs
+cast-result : tie.Need-cast-result
+cast-result c = search needs
+
+shr-result : tie.Need-shr-result
+shr-result c = search needs
 
 returns-2 : tie.Need-returns-2
-unfolding fieldOf
 returns-2 c =
-    let says = c .wide .ensures .says in
-    let at-start = c .before .before .before .before in
-    record { says = says; small = omega (arith, fields≤ (at-start .args .c)) }
+    let at-start = c .before in
+    let says = packed-fields (at-start .args .c) (omega (arith, c .if1 .left)) in
+    record { says = says; small = omega (arith, says, fields≤ (at-start .args .c)) }
 
 pub fields-spec : {M : Type 1} → statement M
-fields-spec = tie.close (tie.spec returns element-copy-out-wide wide-requires returns-2)
+fields-spec = tie.close (tie.spec returns mul-result cast-result shr-result returns-2)

@@ -2,15 +2,16 @@
 use Prim.Native.Nat.{_-_}
 use native.Mathlib.Omega.{arith}
 use Rattle.slots.specs.Written.{Filling, filling-start, filling-on, filling-short, filling-all}
+use Rattle.slots.specs.Splice.{cut-written}
 use borrow.Author.Needs.{needs}
 use Rattle.slots.proofs.put.fill.Statement.{statement}
 use Rattle.slots.proofs.put.fill.Tie as tie
 
 abbrev Inv-loop : tie.InvT-loop
-Inv-loop v dst₀ at n i₀ dst i = Filling v dst₀ at n dst i
+Inv-loop v dst₀ at from n i₀ dst i = Filling v dst₀ from n dst i
 
 abbrev μ-loop : tie.MeasureT-loop
-μ-loop v dst₀ at n i₀ dst i = n - i
+μ-loop v dst₀ at from n i₀ dst i = n - i
 
 sub-least : tie.Need-sub-least Inv-loop μ-loop
 sub-least c = search needs
@@ -18,30 +19,34 @@ sub-least c = search needs
 least-requires : tie.Need-least-requires Inv-loop μ-loop
 least-requires c κs = search needs
 
+least-requires-2 : tie.Need-least-requires-2 Inv-loop μ-loop
+least-requires-2 c κs = search needs
+
 loop-holds : tie.Need-loop-holds Inv-loop μ-loop
 loop-holds c =
-    let at-least = c in
-    let at-start = c .before .before .before in
-    filling-start (at-start .args .v .now) (at-start .args .dst .now) (at-start .args .at) (at-start .pre) (at-least .least .result)
-    (at-least .least .ensures)
+    let at-least2 = c in
+    let at-least = c .before in
+    let at-start = c .before .before .before .before in
+    filling-start (at-start .args .v .now) (at-start .args .dst .now) (at-least .least .result)
+    (omega (arith, at-least .least .ensures)) (at-least2 .least2 .result) (at-least2 .least2 .ensures)
 
 shared-slice-read-dst : tie.Need-shared-slice-read-dst Inv-loop μ-loop
 shared-slice-read-dst c =
-    let at-least = c .before .before .before in
-    omega (arith, at-least .least .ensures)
+    let at-least2 = c .before .before .before in
+    omega (arith, at-least2 .least2 .ensures)
 
 add-dst : tie.Need-add-dst Inv-loop μ-loop
 add-dst c =
-    let at-least = c .before .before .before in
-    let at-start = c .before .before .before .before .before .before in
-    omega (arith, at-least .least .ensures, at-start .pre)
+    let at-least2 = c .before .before .before in
+    let at-least = c .before .before .before .before in
+    omega (arith, at-least2 .least2 .ensures, at-least .least .ensures)
 
 slice-write-dst : tie.Need-slice-write-dst Inv-loop μ-loop
 slice-write-dst c =
     let at-loop = c .before .before in
-    let at-least = c .before .before .before in
-    let at-start = c .before .before .before .before .before .before in
-    omega (arith, at-least .least .ensures, at-loop .loop .inv .long, at-start .pre)
+    let at-least2 = c .before .before .before in
+    let at-least = c .before .before .before .before in
+    omega (arith, at-least2 .least2 .ensures, at-loop .loop .inv .long, at-least .least .ensures)
 
 add-i : tie.Need-add-i Inv-loop μ-loop
 add-i c = search needs
@@ -53,11 +58,11 @@ loop-again : tie.Need-loop-again Inv-loop μ-loop
 loop-again c =
     let at-loop-test = c .before in
     let at-loop = c .before .before in
-    let at-least = c .before .before .before in
-    let at-start = c .before .before .before .before .before .before in
-    filling-on (at-start .args .v .now) (at-start .args .dst .now) (at-start .args .at) (at-start .pre) (at-least .least .result)
-    (at-least .least .ensures)
-    (at-loop .loop .inv) (at-loop-test .loop-test .taken)
+    let at-least2 = c .before .before .before in
+    let at-least = c .before .before .before .before in
+    let at-start = c .before .before .before .before .before .before .before in
+    filling-on (at-start .args .v .now) (at-start .args .dst .now) (at-least .least .result)
+    (omega (arith, at-least .least .ensures)) (at-least2 .least2 .result) (at-least2 .least2 .ensures) (at-loop .loop .inv) (at-loop-test .loop-test .taken)
 
 add-result : tie.Need-add-result Inv-loop μ-loop
 add-result c = search needs
@@ -72,16 +77,19 @@ returns c =
     let at-if1 = c in
     let at-loop-test = c .before in
     let at-loop = c .before .before in
-    let at-least = c .before .before .before in
-    let at-start = c .before .before .before .before .before .before in
-    filling-short (at-start .args .v .now) (at-start .args .dst .now) (at-start .args .at) (at-start .pre) (at-least .least .result)
-    (at-least .least .ensures) (at-loop .loop .inv) (at-loop-test .loop-test .left) (at-if1 .if1 .taken)
+    let at-least2 = c .before .before .before in
+    let at-least = c .before .before .before .before in
+    let at-start = c .before .before .before .before .before .before .before in
+    cut-written (at-start .args .dst .now) (at-start .args .at) (at-least .least .result) (at-least .least .ensures) (at-start .args .v .now)
+    (filling-short (at-start .args .v .now) (at-start .args .dst .now) (at-least .least .result)
+    (omega (arith, at-least .least .ensures)) (at-least2 .least2 .result) (at-least2 .least2 .ensures)
+    (at-loop .loop .inv) (at-loop-test .loop-test .left) (at-if1 .if1 .taken))
 
 add-result-2 : tie.Need-add-result-2 Inv-loop μ-loop
 add-result-2 c =
-    let at-least = c .before .before .before in
-    let at-start = c .before .before .before .before .before .before in
-    omega (arith, at-least .least .ensures, at-start .pre)
+    let at-least2 = c .before .before .before in
+    let at-least = c .before .before .before .before in
+    omega (arith, at-least2 .least2 .ensures, at-least .least .ensures)
 
 same-length-2 : tie.Need-same-length-2 Inv-loop μ-loop
 same-length-2 c =
@@ -93,10 +101,13 @@ returns-2 c =
     let at-if1 = c in
     let at-loop-test = c .before in
     let at-loop = c .before .before in
-    let at-least = c .before .before .before in
-    let at-start = c .before .before .before .before .before .before in
-    filling-all (at-start .args .v .now) (at-start .args .dst .now) (at-start .args .at) (at-start .pre) (at-least .least .result)
-    (at-least .least .ensures) (at-loop .loop .inv) (at-loop-test .loop-test .left) (at-if1 .if1 .left)
+    let at-least2 = c .before .before .before in
+    let at-least = c .before .before .before .before in
+    let at-start = c .before .before .before .before .before .before .before in
+    cut-written (at-start .args .dst .now) (at-start .args .at) (at-least .least .result) (at-least .least .ensures) (at-start .args .v .now)
+    (filling-all (at-start .args .v .now) (at-start .args .dst .now) (at-least .least .result)
+    (omega (arith, at-least .least .ensures)) (at-least2 .least2 .result) (at-least2 .least2 .ensures)
+    (at-loop .loop .inv) (at-loop-test .loop-test .left) (at-if1 .if1 .left))
 
 pub fill-spec : {M : Type 1} → statement M
 fill-spec =
@@ -104,8 +115,9 @@ fill-spec =
     (tie.spec
     Inv-loop
     μ-loop
-    sub-least
     least-requires
+    sub-least
+    least-requires-2
     loop-holds
     shared-slice-read-dst
     add-dst
