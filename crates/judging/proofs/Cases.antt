@@ -134,6 +134,12 @@ module _ (P : Exp → Type 0) where
       go : {x : Exp} → Coded 12 x → P x
       go (is-letIn p a b) = f p a b
 
+  pub by-seq : (x : Exp) → codeNum x ≡ 13 → ((p : ℕ) (a b : Exp) → P (e.seq p a b)) → P x
+  by-seq x z f = go (coded-by 13 x z)
+    where
+      go : {x : Exp} → Coded 13 x → P x
+      go (is-seq p a b) = f p a b
+
   pub by-add : (x : Exp) → codeNum x ≡ 14 → ((p : ℕ) (a b : Exp) → P (e.add p a b)) → P x
   by-add x z f = go (coded-by 14 x z)
     where

@@ -77,4 +77,4 @@ walked env (e.ifNot0 p t a b c) =
     let F : ℕ → Judged = λ o. judge env c next λ v n. test (subtype v t) 12 (placeOf c) (typed t (union o n)) in
     next-same _ _ _ (λ i l.
     asInt-split (placeOf a) (judge env b) (λ l u m. test (subtype u t) 12 (placeOf b) (F (union l m))) l i
-    ∙ next-same _ _ _ (λ k o. next-same _ _ _ (λ u m. if-split (subtype u t) (placeOf b) u (union o m) F)))
+    ∙ next-same _ _ _ (λ k o. next-same _ _ _ (λ u m. if-split (subtype u t) (placeOf b) unit (union o m) F)))

@@ -2,3 +2,4 @@ pub mod Parts
 pub mod One
 pub mod Two
 pub mod Three
+pub mod Halves

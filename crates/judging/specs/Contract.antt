@@ -3,6 +3,8 @@
 use Prim.Native.Nat.{ℕ, _+_, _-_, _*_, _^_, _<_, _≤_}
 use mathlib.Core.Path.{_≡_}
 use mathlib.Core.List.{List}
+use mathlib.Core.Bool.{Bool, true, false}
+use mathlib.Core.Logic.{_⊎_}
 use lib.ListN.{length, getD}
 use Rattle.paper.specs.Types.{Ty}
 use Rattle.paper.specs.Reading.{got}
@@ -52,15 +54,23 @@ pub record Entered (img w w′ : List ℕ) (at v n : ℕ) : Type 0 where
   pub change : EnvChange w w′ v
   pub says : (left : ℕ) (x : Exp) (next : ℕ) (env : List Ty) → expAt left v n img at ≡ got x next → Env w v n env → Env w′ (v + binds1 (getD img at 0)) (n + locks1 (getD img at 0)) (env1 x env)
 
--- what binding is given: the first part's type stands in the slot
+-- what binding is given: the first part's type stands in its slot
 pub record Bindable (img w : List ℕ) (at v n left : ℕ) : Type 0 where
   pub ready : Ready img w at v n left
   pub type : Ty
-  pub there : InSlot w left n type
+  pub there : InSlot w (left - 1) n type
 
 pub record Bound (img w w′ : List ℕ) (at v n left : ℕ) : Type 0 where
   pub change : EnvChange w w′ v
-  pub says : (x : Exp) (next : ℕ) (env : List Ty) (k : Ty) → expAt left v n img at ≡ got x next → Env w v n env → InSlot w left n k → Env w′ (v + binds2 (getD img at 0)) n (env2 x k env)
+  pub says : (x : Exp) (next : ℕ) (env : List Ty) (k : Ty) → expAt left v n img at ≡ got x next → Env w v n env → InSlot w (left - 1) n k → Env w′ (v + binds2 (getD img at 0)) n (env2 x k env)
+
+-- a let or a then
+abbrev pub Chained : ℕ → Type 0
+Chained b = (b ≡ 12) ⊎ (b ≡ 13)
+
+pub record Chains (b : ℕ) (r : Bool) : Type 0 where
+  pub yes : r ≡ true → Chained b
+  pub no : r ≡ false → (b ≡ 12 → ⊥) × (b ≡ 13 → ⊥)
 
 -- the place of a part
 abbrev pub place1 : Parts → ℕ
@@ -121,29 +131,16 @@ Starts img at v n p = fields (getD img at 0) v n img at ≡ Next p
 abbrev pub Read : List ℕ → ℕ → ℕ → ℕ → Type 0
 Read img at v n = (n ≤ 32) × (left : ℕ) × (x : Exp) × (next : ℕ) × (expAt left v n img at ≡ got x next)
 
--- the codes whose first part is only kept, and those whose first part has to be of a kind
+-- the expressions with parts that are no let and no then
+pub record Walks (b : ℕ) : Type 0 where
+  pub some : 3 < b
+  pub no-let : b ≡ 12 → ⊥
+  pub no-then : b ≡ 13 → ⊥
+
+-- the codes whose first part has to be of a kind
 pub data Due : ℕ → ℕ → Type 0 where
   due5 : {b k : ℕ} → b ≡ 5 → k ≡ 36 → Due b k
   due8 : {b k : ℕ} → b ≡ 8 → k ≡ 35 → Due b k
   due11 : {b k : ℕ} → b ≡ 11 → k ≡ 34 → Due b k
   due14 : {b k : ℕ} → b ≡ 14 → k ≡ 33 → Due b k
   due15 : {b k : ℕ} → b ≡ 15 → k ≡ 33 → Due b k
-
-pub record Plain1 (b : ℕ) : Type 0 where
-  pub not4 : b ≡ 4 → ⊥
-  pub not5 : b ≡ 5 → ⊥
-  pub not6 : b ≡ 6 → ⊥
-  pub not7 : b ≡ 7 → ⊥
-  pub not8 : b ≡ 8 → ⊥
-  pub not9 : b ≡ 9 → ⊥
-  pub not10 : b ≡ 10 → ⊥
-  pub not11 : b ≡ 11 → ⊥
-  pub not14 : b ≡ 14 → ⊥
-  pub not15 : b ≡ 15 → ⊥
-
-pub record Plain2 (b : ℕ) : Type 0 where
-  pub not5 : b ≡ 5 → ⊥
-  pub not8 : b ≡ 8 → ⊥
-  pub not11 : b ≡ 11 → ⊥
-  pub not14 : b ≡ 14 → ⊥
-  pub not15 : b ≡ 15 → ⊥

@@ -122,7 +122,7 @@ after2 (e.sync p a b) k m u n = asLock (placeOf a) k (λ j. typed u (union m (le
 after2 (e.letIn p a b) k m u n = typed u (union m n)
 after2 (e.seq p a b) k m u n = typed u (union m n)
 after2 (e.add p a b) k m u n = asInt (placeOf b) u (λ _. typed int (union m n))
-after2 (e.ifNot0 p t a b c) k m u n = test (subtype u t) 12 (placeOf b) (typed u (union m n))
+after2 (e.ifNot0 p t a b c) k m u n = test (subtype u t) 12 (placeOf b) (typed unit (union m n))
 
 -- after the third part gave u and n, where m was kept
 unfoldable pub after3 : Exp → ℕ → Ty → ℕ → Judged

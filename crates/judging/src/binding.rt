@@ -5,20 +5,21 @@ use crate::shift;
 use crate::work::Answer;
 use crate::work::slot_of;
 use crate::work::var_at;
-use types::stated::Got;
-ghost use Prim.Native.Nat.{_≤_};
+ghost use Prim.Native.Nat.{_≤_, _<_};
 ghost use lib.ListN.{getD};
 ghost use Rattle.judging.specs.Contract.{Ready, Finds, Entered, Bindable, Bound, Read, Starts};
 
-// The place after the expression's own fields: of its first part, or of what follows it.
+// The place of the first part: after the expression's own fields. They have been read, so nothing is tested again.
 pub(crate) fn first_part(img: &[u8], at: usize, vars: u8, locks: u8) -> usize
-    requires { ⌜ Read (now img) at vars locks ⌝ }
+    requires { ⌜ Read (now img) at vars locks × (3 < getD (now img) at 0) ⌝ }
     ensures { λ r. ⌜ Starts (now (img .entry)) at vars locks r ⌝ }
 {
     let code = img[at];
-    match reading::first::own_fields(img, at, code, vars, locks) {
-        Got::Next(p) => p,
-        Got::Refused(_, _) => at,
+    match code {
+        4 => copies::skip(img, at + 1) + 4,
+        6 => copies::skip(img, at + 2),
+        15 => copies::skip(img, at + 1),
+        _ => at + 1,
     }
 }
 
@@ -28,22 +29,21 @@ pub(crate) fn leaf(img: &[u8], at: usize, work: &mut [u8], vars: u8, locks: u8, 
     ensures { λ r. ⌜ Finds (now (img .entry)) (now (work .entry)) (now (work .exit)) at vars locks left r ⌝ }
 {
     let code = img[at];
-    let next = first_part(img, at, vars, locks);
     let to = slot_of(left);
     if code == 1 {
         work[to] = 32;
-        return Answer::Typed(next, 0);
+        return Answer::Typed(at + 1, 0);
     }
     if code == 2 {
         work[to] = 33;
-        return Answer::Typed(next, 0);
+        return Answer::Typed(at + 5, 0);
     }
     let index = img[at + 1];
     let from = var_at(vars - 1 - index);
     let level = work[from + 256];
     copies::copy(work, from, to);
     shift::raise(work, to, locks - level);
-    Answer::Typed(next, 0)
+    Answer::Typed(at + 2, 0)
 }
 
 // What the first part is under: a function's argument, or the new lock.
@@ -74,7 +74,7 @@ pub(crate) fn bind(img: &[u8], at: usize, work: &mut [u8], vars: u8, locks: u8, 
     let code = img[at];
     if code == 12 {
         let to = var_at(vars);
-        copies::copy(work, slot_of(left), to);
+        copies::copy(work, slot_of(left - 1), to);
         work[to + 256] = locks;
     }
 }

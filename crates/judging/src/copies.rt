@@ -5,28 +5,44 @@ ghost use lib.ListN.{length};
 ghost use Rattle.judging.specs.Copies.{Movable, Moved, Copied, Some, Ends, Givable, Given};
 ghost use Rattle.paper.specs.Calls.{zeroed};
 
-// The place after the type at `at`.
+// The place after the type at `at`. A Function's result stands behind its argument and its set, so it is enough to count the results that
+// are still due.
 pub(crate) fn skip(s: &[u8], at: usize) -> usize
     requires { ⌜ Some (now s) at ⌝ }
     ensures { λ r. ⌜ Ends (now (s .entry)) at r ⌝ }
 {
-    let code = s[at];
-    match code {
-        34 => at + 2,
-        35 => skip(s, at + 2),
-        36 => {
-            let p = skip(s, at + 1);
-            skip(s, p + 4)
+    let mut p = at;
+    let mut due: usize = 0;
+    loop {
+        let code = s[p];
+        if code == 36 {
+            due += 1;
+            p += 1;
+            continue;
         }
-        _ => at + 1,
+        if code == 35 {
+            p += 2;
+            continue;
+        }
+        let end = if code == 34 { p + 2 } else { p + 1 };
+        if due == 0 {
+            return end;
+        }
+        due -= 1;
+        p = end + 4;
     }
 }
 
-// The type at `from`, byte by byte to `to`: lower, or past the 256 bytes that it may have. Most types are a few bytes.
+// The type at `from`, byte by byte to `to`: lower, or past the 256 bytes that it may have. Most types are one byte.
 pub(crate) fn copy(w: &mut [u8], from: usize, to: usize)
     requires { ⌜ Movable (now w) from to ⌝ }
     ensures { λ _. ⌜ Moved (now (w .entry)) (now (w .exit)) from to ⌝ }
 {
+    let code = w[from];
+    if code < 34 {
+        w[to] = code;
+        return;
+    }
     let size = skip(w, from) - from;
     let mut i = 0;
     while i < size {

@@ -12,26 +12,9 @@ use crate::work::Step;
 use crate::work::slot_of;
 ghost use mathlib.Core.Path.{_≡_};
 ghost use lib.ListN.{getD};
-ghost use Rattle.judging.specs.Contract.{First, Some1, Plain1, Due};
+ghost use Rattle.judging.specs.Contract.{First, Some1, Walks, Due};
 
-// Let and then: no test.
-fn first_plain(
-    img: &[u8],
-    at: usize,
-    part: usize,
-    work: &mut [u8],
-    locks: u8,
-    left: u8,
-    need: u32,
-) -> Step
-    requires { ⌜ Some1 (now img) (now work) at locks left × Plain1 (getD (now img) at 0) ⌝ }
-    ensures { λ r. ⌜ First (now (img .entry)) (now (work .entry)) (now (work .exit)) at locks left part need r ⌝ }
-{
-    copies::copy(work, slot_of(left - 1), slot_of(left));
-    Step::Go(need)
-}
-
-// The part is of the kind due: a Function, a Ref, a Lock or an Int.
+// The part is of the kind due: a Function, a Ref or a Lock.
 fn first_due(
     img: &[u8],
     at: usize,
@@ -50,6 +33,26 @@ fn first_due(
         return Step::Stop(11, part);
     }
     copies::copy(work, from, slot_of(left));
+    Step::Go(need)
+}
+
+// The part is an Int, which is all that is kept of it.
+fn first_int(
+    img: &[u8],
+    at: usize,
+    part: usize,
+    work: &mut [u8],
+    locks: u8,
+    left: u8,
+    need: u32,
+) -> Step
+    requires { ⌜ Some1 (now img) (now work) at locks left × Due (getD (now img) at 0) 33 ⌝ }
+    ensures { λ r. ⌜ First (now (img .entry)) (now (work .entry)) (now (work .exit)) at locks left part need r ⌝ }
+{
+    if work[slot_of(left - 1)] != 33 {
+        return Step::Stop(11, part);
+    }
+    work[slot_of(left)] = 33;
     Step::Go(need)
 }
 
@@ -198,7 +201,7 @@ pub(crate) fn after_first(
     left: u8,
     need: u32,
 ) -> Step
-    requires { ⌜ Some1 (now img) (now work) at locks left ⌝ }
+    requires { ⌜ Some1 (now img) (now work) at locks left × Walks (getD (now img) at 0) ⌝ }
     ensures { λ r. ⌜ First (now (img .entry)) (now (work .entry)) (now (work .exit)) at locks left part need r ⌝ }
 {
     let code = img[at];
@@ -211,8 +214,6 @@ pub(crate) fn after_first(
         9 => first_fork(img, at, part, work, locks, left, need),
         10 => first_lock(img, at, part, work, locks, left, need),
         11 => first_due(img, at, part, work, locks, left, need, 34),
-        14 => first_due(img, at, part, work, locks, left, need, 33),
-        15 => first_due(img, at, part, work, locks, left, need, 33),
-        _ => first_plain(img, at, part, work, locks, left, need),
+        _ => first_int(img, at, part, work, locks, left, need),
     }
 }

@@ -10,25 +10,8 @@ use crate::work::Step;
 use crate::work::slot_of;
 ghost use mathlib.Core.Path.{_≡_};
 ghost use lib.ListN.{getD};
-ghost use Rattle.judging.specs.Contract.{Second, Third, Some2, Some3, Plain2};
-
-// Let and then: the second part is the whole.
-fn second_plain(
-    img: &[u8],
-    at: usize,
-    part: usize,
-    work: &mut [u8],
-    locks: u8,
-    left: u8,
-    kept: u32,
-    need: u32,
-) -> Step
-    requires { ⌜ Some2 (now img) (now work) at locks left × Plain2 (getD (now img) at 0) ⌝ }
-    ensures { λ r. ⌜ Second (now (img .entry)) (now (work .entry)) (now (work .exit)) at locks left part kept need r ⌝ }
-{
-    copies::copy(work, slot_of(left - 1), slot_of(left));
-    Step::Go(kept | need)
-}
+ghost use Rattle.reading.specs.Walk.{parts};
+ghost use Rattle.judging.specs.Contract.{Second, Third, Some2, Some3, Walks};
 
 // An argument is below the function's, and the result is the function's.
 fn second_app(
@@ -122,7 +105,7 @@ fn second_add(
     Step::Go(kept | need)
 }
 
-// The branch that is taken where the number is not 0 is below the stated type.
+// The branch that is taken where the number is not 0 is below the stated type. Nothing of it is needed later: Unit is kept.
 fn second_cond(
     img: &[u8],
     at: usize,
@@ -136,11 +119,10 @@ fn second_cond(
     requires { ⌜ Some2 (now img) (now work) at locks left × (getD (now img) at 0 ≡ 15) ⌝ }
     ensures { λ r. ⌜ Second (now (img .entry)) (now (work .entry)) (now (work .exit)) at locks left part kept need r ⌝ }
 {
-    let from = slot_of(left - 1);
-    match subtype::related(work, from, img, at + 1, Mode::Below) {
+    match subtype::related(work, slot_of(left - 1), img, at + 1, Mode::Below) {
         Cmp::Differ => Step::Stop(12, part),
         Cmp::Next(_) => {
-            copies::copy(work, from, slot_of(left));
+            work[slot_of(left)] = 32;
             Step::Go(kept | need)
         }
     }
@@ -157,7 +139,7 @@ pub(crate) fn after_second(
     kept: u32,
     need: u32,
 ) -> Step
-    requires { ⌜ Some2 (now img) (now work) at locks left ⌝ }
+    requires { ⌜ Some2 (now img) (now work) at locks left × Walks (getD (now img) at 0) × (parts (getD (now img) at 0) ≡ 1 → ⊥) ⌝ }
     ensures { λ r. ⌜ Second (now (img .entry)) (now (work .entry)) (now (work .exit)) at locks left part kept need r ⌝ }
 {
     let code = img[at];
@@ -166,8 +148,7 @@ pub(crate) fn after_second(
         8 => second_write(img, at, part, work, locks, left, kept, need),
         11 => second_sync(img, at, part, work, locks, left, kept, need),
         14 => second_add(img, at, part, work, locks, left, kept, need),
-        15 => second_cond(img, at, part, work, locks, left, kept, need),
-        _ => second_plain(img, at, part, work, locks, left, kept, need),
+        _ => second_cond(img, at, part, work, locks, left, kept, need),
     }
 }
 

@@ -74,8 +74,9 @@ fn sets(x: &[u8], i: usize, y: &[u8], j: usize, md: Mode) -> bool
     )
 }
 
-// Whether the type at i of x is so related to the one at j of y.
-pub(crate) fn related(x: &[u8], i: usize, y: &[u8], j: usize, md: Mode) -> Cmp
+// Whether the type at i of x is so related to the one at j of y, with all its parts. The answer of the last part is made anew: handed on as it is,
+// it would be copied through memory, which costs more than the test.
+fn parts_related(x: &[u8], i: usize, y: &[u8], j: usize, md: Mode) -> Cmp
     ensures { λ r. ⌜ Related (now (x .entry)) i (now (y .entry)) j (way md) r ⌝ }
 {
     if x.len() <= i {
@@ -100,17 +101,23 @@ pub(crate) fn related(x: &[u8], i: usize, y: &[u8], j: usize, md: Mode) -> Cmp
         }
         35 => {
             if same_name(x, i + 1, y, j + 1) {
-                related(x, i + 2, y, j + 2, Mode::Same)
+                match parts_related(x, i + 2, y, j + 2, Mode::Same) {
+                    Cmp::Differ => Cmp::Differ,
+                    Cmp::Next(end) => Cmp::Next(end),
+                }
             } else {
                 Cmp::Differ
             }
         }
-        36 => match related(x, i + 1, y, j + 1, flip(md)) {
+        36 => match parts_related(x, i + 1, y, j + 1, flip(md)) {
             Cmp::Differ => Cmp::Differ,
             Cmp::Next(p) => {
                 let q = j + (p - i);
                 if sets(x, p, y, q, md) {
-                    related(x, p + 4, y, q + 4, md)
+                    match parts_related(x, p + 4, y, q + 4, md) {
+                        Cmp::Differ => Cmp::Differ,
+                        Cmp::Next(end) => Cmp::Next(end),
+                    }
                 } else {
                     Cmp::Differ
                 }
@@ -121,4 +128,26 @@ pub(crate) fn related(x: &[u8], i: usize, y: &[u8], j: usize, md: Mode) -> Cmp
             Cmp::Next(end)
         }
     }
+}
+
+// The same: two codes that differ, and Unit and Int, which are most, need no walk.
+pub(crate) fn related(x: &[u8], i: usize, y: &[u8], j: usize, md: Mode) -> Cmp
+    ensures { λ r. ⌜ Related (now (x .entry)) i (now (y .entry)) j (way md) r ⌝ }
+{
+    if x.len() <= i {
+        return Cmp::Differ;
+    }
+    if y.len() <= j {
+        return Cmp::Differ;
+    }
+    let code = x[i];
+    let other = y[j];
+    if code != other {
+        return Cmp::Differ;
+    }
+    if code < 34 {
+        let end = i + 1;
+        return Cmp::Next(end);
+    }
+    parts_related(x, i, y, j, md)
 }

@@ -2,7 +2,7 @@
 -- answers", refusals 2 to 9), and the tables of how the parts of an expression stand (`Walk`).
 use mathlib.Core.Path.{_≡_}
 use mathlib.Core.List.{List}
-use Prim.Native.Nat.{ℕ, _+_, _≤_, _<_}
+use Prim.Native.Nat.{ℕ, _+_, _-_, _≤_, _<_}
 use lib.Dec.{ltb, eqb}
 use lib.ListN.{length, getD}
 use Rattle.paper.specs.Base.{choose}
@@ -12,6 +12,8 @@ use Rattle.paper.specs.Reading.{_>>=_, word, index, lockName, lockSet, readStat
 use Rattle.types.specs.declared.stated.Got.{Got}
 use Rattle.types.specs.declared.stated.Got.the-variants.{Next, Refused}
 use Rattle.types.specs.Told.{told}
+use Rattle.reading.specs.declared.first.Lead.{Lead}
+use Rattle.reading.specs.declared.first.Lead.the-variants.{Whole, Wrong, Last}
 use Rattle.reading.specs.Walk.{parts, binds1, locks1, binds2}
 
 -- the whole image s
@@ -67,3 +69,11 @@ pub record Due (s : List ℕ) (i d : ℕ) : Type 0 where
 pub record CodeRead (s : List ℕ) (i d : ℕ) (r : Got) : Type 0 where
   pub due : {p : ℕ} → r ≡ Next p → Due s i d
   pub wrong : {k p : ℕ} → r ≡ Refused k p → (n v : ℕ) → r ≡ told (readExp 1 d s n v i)
+
+-- the expression at i, under v variables and n locks with d of the nesting left, before its last part: what is told of the whole; or the last
+-- part, of which the same is told as of the whole
+pub record Led (s : List ℕ) (i v n d : ℕ) (r : Lead) : Type 0 where
+  pub whole : {p : ℕ} → r ≡ Whole p → Next p ≡ told (readExp 1 d s n v i)
+  pub wrong : {k p : ℕ} → r ≡ Wrong k p → Refused k p ≡ told (readExp 1 d s n v i)
+  pub last : {p u m : ℕ} → r ≡ Last p u m → told (readExp 1 (d - 1) s m u p) ≡ told (readExp 1 d s n v i)
+  pub room : {p u m : ℕ} → r ≡ Last p u m → (u + (d - 1) ≤ 64) × (m ≤ 32) × (0 < d)

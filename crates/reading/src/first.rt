@@ -4,7 +4,7 @@ ghost use mathlib.Core.Path.{_≡_};
 ghost use Prim.Native.Nat.{_+_, _≤_};
 ghost use Rattle.types.specs.Told.{told};
 ghost use Rattle.paper.specs.Reading.{word, index, readExp};
-ghost use Rattle.reading.specs.Contract.{OwnFields, PartsOf, FirstBinds, FirstLocks, SecondBinds, CodeRead};
+ghost use Rattle.reading.specs.Contract.{OwnFields, PartsOf, FirstBinds, FirstLocks, SecondBinds, CodeRead, Led};
 
 // A number's four bytes.
 fn read_number(s: &[u8], at: usize) -> Got
@@ -130,39 +130,87 @@ fn read_code(s: &[u8], at: usize, left: u8) -> Got
     }
 }
 
-// The expression at `at`, under `vars` binders and `locks` locks, with `left` of the nesting left.
+// An expression before its last part: read whole, where it has none, with the place after it; refused; or the last part's place, with the
+// variables and the locks that it is under.
+pub(crate) enum Lead {
+    Whole(usize),
+    Wrong(u8, usize),
+    Last(usize, u8, u8),
+}
+
+// The expression at `at`, under `vars` binders and `locks` locks, with `left` of the nesting left, up to its last part.
+fn read_lead(s: &[u8], at: usize, vars: u8, locks: u8, left: u8) -> Lead
+    requires { ⌜ (vars + left ≤ 64) × (locks ≤ 32) ⌝ }
+    ensures { λ r. ⌜ Led (now (s .entry)) at vars locks left r ⌝ }
+{
+    match read_code(s, at, left) {
+        Got::Refused(k, p) => {
+            return Lead::Wrong(k, p);
+        }
+        Got::Next(_) => {
+            let code = s[at];
+            match own_fields(s, at, code, vars, locks) {
+                Got::Refused(k, p) => {
+                    return Lead::Wrong(k, p);
+                }
+                Got::Next(p) => {
+                    let n = parts_of(code);
+                    if n == 0 {
+                        return Lead::Whole(p);
+                    }
+                    let inner_vars = vars + first_binds(code);
+                    let inner_locks = locks + first_locks(code);
+                    if n == 1 {
+                        return Lead::Last(p, inner_vars, inner_locks);
+                    }
+                    match read_exp(s, p, inner_vars, inner_locks, left - 1) {
+                        Got::Refused(k, q) => {
+                            return Lead::Wrong(k, q);
+                        }
+                        Got::Next(q) => {
+                            let later_vars = vars + second_binds(code);
+                            if n == 2 {
+                                return Lead::Last(q, later_vars, locks);
+                            }
+                            match read_exp(s, q, later_vars, locks, left - 1) {
+                                Got::Refused(k, r) => {
+                                    return Lead::Wrong(k, r);
+                                }
+                                Got::Next(r) => {
+                                    return Lead::Last(r, vars, locks);
+                                }
+                            }
+                        }
+                    }
+                }
+            }
+        }
+    }
+}
+
+// The whole of it: on with the last part, as long as there is one.
 pub(crate) fn read_exp(s: &[u8], at: usize, vars: u8, locks: u8, left: u8) -> Got
     requires { ⌜ (vars + left ≤ 64) × (locks ≤ 32) ⌝ }
     ensures { λ r. ⌜ r ≡ told (readExp 1 left (now (s .entry)) locks vars at) ⌝ }
 {
-    let due = read_code(s, at, left);
-    let Got::Next(_) = due else {
-        return due;
-    };
-    let code = s[at];
-    let own = own_fields(s, at, code, vars, locks);
-    let Got::Next(p) = own else {
-        return own;
-    };
-    let n = parts_of(code);
-    if n == 0 {
-        return own;
+    let mut place = at;
+    let mut under = vars;
+    let mut held = locks;
+    let mut deep = left;
+    loop {
+        match read_lead(s, place, under, held, deep) {
+            Lead::Whole(p) => {
+                return Got::Next(p);
+            }
+            Lead::Wrong(k, p) => {
+                return Got::Refused(k, p);
+            }
+            Lead::Last(p, v, n) => {
+                place = p;
+                under = v;
+                held = n;
+                deep -= 1;
+            }
+        }
     }
-    let inner_vars = vars + first_binds(code);
-    let inner_locks = locks + first_locks(code);
-    let first = read_exp(s, p, inner_vars, inner_locks, left - 1);
-    let Got::Next(q) = first else {
-        return first;
-    };
-    if n == 1 {
-        return first;
-    }
-    let second = read_exp(s, q, vars + second_binds(code), locks, left - 1);
-    let Got::Next(r) = second else {
-        return second;
-    };
-    if n == 2 {
-        return second;
-    }
-    read_exp(s, r, vars, locks, left - 1)
 }

@@ -1,3 +1,4 @@
 pub mod Laws
 pub mod Agree
 pub mod Unique
+pub mod Leads

@@ -4,7 +4,7 @@ ghost use Prim.Native.Nat.{_+_, _≤_, _<_, _^_};
 ghost use lib.Dec.{ltb};
 ghost use lib.ListN.{length};
 ghost use Rattle.paper.specs.Base.{word32};
-ghost use Rattle.types.specs.Contract.{NameRead, SetRead, TypeRead, StatedRead};
+ghost use Rattle.types.specs.Contract.{NameRead, SetRead, TypeRead, TypeLed, StatedRead};
 
 // What a reader answers: the place after what it read, or the number of the refusal and its place.
 pub enum Got {
@@ -69,47 +69,96 @@ pub fn read_set(s: &[u8], at: usize, locks: u8) -> Got
     }
 }
 
-// The type at `at`, with `left` of the nesting left.
-fn read_type(s: &[u8], at: usize, locks: u8, left: u8) -> Got
-    ensures { λ r. ⌜ TypeRead (now (s .entry)) at locks left r ⌝ }
+// A type before its last part: read whole, where it has none, with the place after it; refused; or the last part's place.
+pub(crate) enum Lead {
+    Whole(usize),
+    Wrong(u8, usize),
+    Last(usize),
+}
+
+// The type at `at`, with `left` of the nesting left, up to its last part: a Ref's content, or a Function's result.
+fn read_lead(s: &[u8], at: usize, locks: u8, left: u8) -> Lead
+    ensures { λ r. ⌜ TypeLed (now (s .entry)) at locks left r ⌝ }
 {
     if s.len() <= at {
-        return Got::Refused(5, s.len());
+        return Lead::Wrong(5, s.len());
     }
     let code = s[at];
     if code < 32 {
-        return Got::Refused(4, at);
+        return Lead::Wrong(4, at);
     }
     if 36 < code {
-        return Got::Refused(4, at);
+        return Lead::Wrong(4, at);
     }
     if left == 0 {
-        return Got::Refused(7, at);
+        return Lead::Wrong(7, at);
     }
-    match code {
-        32 => Got::Next(at + 1),
-        33 => Got::Next(at + 1),
-        34 => read_name(s, at + 1, locks),
-        35 => match read_name(s, at + 1, locks) {
-            Got::Refused(k, p) => Got::Refused(k, p),
-            Got::Next(p) => read_type(s, p, locks, left - 1),
-        },
-        _ => match read_type(s, at + 1, locks, left - 1) {
-            Got::Refused(k, p) => Got::Refused(k, p),
+    if code < 34 {
+        return Lead::Whole(at + 1);
+    }
+    if code == 36 {
+        match read_type(s, at + 1, locks, left - 1) {
+            Got::Refused(k, p) => {
+                return Lead::Wrong(k, p);
+            }
             Got::Next(p) => match read_set(s, p, locks) {
-                Got::Refused(k, q) => Got::Refused(k, q),
-                Got::Next(q) => read_type(s, q, locks, left - 1),
+                Got::Refused(k, q) => {
+                    return Lead::Wrong(k, q);
+                }
+                Got::Next(q) => {
+                    return Lead::Last(q);
+                }
             },
-        },
+        }
+    }
+    match read_name(s, at + 1, locks) {
+        Got::Refused(k, p) => {
+            return Lead::Wrong(k, p);
+        }
+        Got::Next(p) => {
+            if code == 34 {
+                return Lead::Whole(p);
+            }
+            return Lead::Last(p);
+        }
     }
 }
 
-// A stated type: at most 16 deep and at most 256 bytes.
+// The whole of it: on with the last part, as long as there is one.
+fn read_type(s: &[u8], at: usize, locks: u8, left: u8) -> Got
+    ensures { λ r. ⌜ TypeRead (now (s .entry)) at locks left r ⌝ }
+{
+    let mut place = at;
+    let mut deep = left;
+    loop {
+        match read_lead(s, place, locks, deep) {
+            Lead::Whole(p) => {
+                return Got::Next(p);
+            }
+            Lead::Wrong(k, p) => {
+                return Got::Refused(k, p);
+            }
+            Lead::Last(p) => {
+                place = p;
+                deep -= 1;
+            }
+        }
+    }
+}
+
+// A stated type: at most 16 deep and at most 256 bytes. Unit and Int, the most frequent, need no call.
 pub fn read_stated(s: &[u8], at: usize, locks: u8) -> Got
     ensures { λ r. ⌜ StatedRead (now (s .entry)) at locks r ⌝ }
 {
     if s.len() <= at {
         return Got::Refused(5, s.len());
+    }
+    let code = s[at];
+    if code == 32 {
+        return Got::Next(at + 1);
+    }
+    if code == 33 {
+        return Got::Next(at + 1);
     }
     match read_type(s, at, locks, 16) {
         Got::Refused(k, p) => Got::Refused(k, p),

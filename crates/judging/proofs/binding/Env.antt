@@ -44,7 +44,7 @@ env1-other (e.seq p a b) env z y = refl
 env1-other (e.add p a b) env z y = refl
 env1-other (e.ifNot0 p t a b c) env z y = refl
 
-env2-other : (x : Exp) (k : Ty) (env : List Ty) → (codeNum x ≡ 12 → ⊥) → env2 x k env ≡ env
+pub env2-other : (x : Exp) (k : Ty) (env : List Ty) → (codeNum x ≡ 12 → ⊥) → env2 x k env ≡ env
 unfolding env2
 env2-other (e.unit p) k env z = refl
 env2-other (e.num p i) k env z = refl
@@ -62,15 +62,15 @@ env2-other (e.seq p a b) k env z = refl
 env2-other (e.add p a b) k env z = refl
 env2-other (e.ifNot0 p t a b c) k env z = refl
 
-binds1-other : (b : ℕ) → (b ≡ 4 → ⊥) → (b ≡ 10 → ⊥) → binds1 b ≡ 0
+pub binds1-other : (b : ℕ) → (b ≡ 4 → ⊥) → (b ≡ 10 → ⊥) → binds1 b ≡ 0
 unfolding binds1
 binds1-other b z y = rw (ne-eqb b 4 z, ne-eqb b 10 y)
 
-locks1-other : (b : ℕ) → (b ≡ 10 → ⊥) → locks1 b ≡ 0
+pub locks1-other : (b : ℕ) → (b ≡ 10 → ⊥) → locks1 b ≡ 0
 unfolding locks1
 locks1-other b y = rw (ne-eqb b 10 y)
 
-binds2-other : (b : ℕ) → (b ≡ 12 → ⊥) → binds2 b ≡ 0
+pub binds2-other : (b : ℕ) → (b ≡ 12 → ⊥) → binds2 b ≡ 0
 unfolding binds2
 binds2-other b z = rw (ne-eqb b 12 z)
 
@@ -128,10 +128,10 @@ module _ {img w : List ℕ} {at v n left : ℕ} (R : Ready img w at v n left) wh
             rw (binds2-other (getD img at 0) z, add-zero v, env2-other x k env y) g;
       }
 
-  pub bind-movable : (t : Ty) → InSlot w left n t → Movable w (slot left) (320 * v)
+  pub bind-movable : (t : Ty) → InSlot w (left - 1) n t → Movable w (slot (left - 1)) (320 * v)
   bind-movable t I = let l = few-vars in (t, I .there, I .short, omega (arith, R .room), inl (omega (arith, R .deep)))
 
-  pub bind-let : (w₁ : List ℕ) → getD img at 0 ≡ 12 → Moved w w₁ (slot left) (320 * v) → Bound img w (set w₁ (320 * v + 256) n) at v n left
+  pub bind-let : (w₁ : List ℕ) → getD img at 0 ≡ 12 → Moved w w₁ (slot (left - 1)) (320 * v) → Bound img w (set w₁ (320 * v + 256) n) at v n left
   unfolding binds2 env2
   bind-let w₁ e c =
       let fv = few-vars in

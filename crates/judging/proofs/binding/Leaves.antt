@@ -10,15 +10,12 @@ use lib.Seq.{getD-set-same}
 use Rattle.paper.specs.Types.{Ty, unit, tySize}
 use Rattle.paper.specs.Reading.{got}
 use Rattle.judging.specs.Holds.{Kept}
-use Rattle.types.specs.declared.stated.Got.{Got}
-use Rattle.types.specs.declared.stated.Got.the-variants as got-variants
 use Rattle.judging.proofs.Held.{kept-wider, kept-then, kept-set}
 use Rattle.judging.specs.Copies.{Movable, Moved}
 use Rattle.judging.specs.Shift.{Within, raised, Raisable, Raises}
 use Rattle.judging.proofs.shift.Laws.{raised-within, raised-size}
 use Rattle.reading.specs.Placed.{Exp, placeOf}
 use Rattle.reading.specs.First.{expAt}
-use Rattle.reading.specs.Walk.{fields}
 use Rattle.judging.specs.Rules.{judge}
 use Rattle.judging.specs.declared.work.Answer.the-variants.{Typed, Refused}
 use Rattle.judging.specs.Phases.{Parts, none, one, two, three, partsOf}
@@ -146,10 +143,3 @@ module _ {img w : List ℕ} {at v n left p : ℕ} (R : Ready img w at v n left) 
 
 pub is-three : {img w : List ℕ} {at v n left : ℕ} → Ready img w at v n left → (getD img at 0 ≡ 1 → ⊥) → (getD img at 0 ≡ 2 → ⊥) → getD img at 0 ≤ 3 → getD img at 0 ≡ 3
 is-three {img} {w} {at} {v} {n} {left} R a c d = let z = read-whole left v n img at (R .x) (R .next) (R .reads) .some in omega arith
-
--- a reading there has fields
-pub fields-there : (img : List ℕ) (at v n left : ℕ) (x : Exp) (nx : ℕ) {r : Got} {k p : ℕ} → expAt left v n img at ≡ got x nx → r ≡ fields (getD img at 0) v n img at → r ≡ got-variants.Refused k p → ⊥
-fields-there img at v n left x nx h e f =
-    let o = read-whole left v n img at x nx h .is .own in
-    let z : _≡_ {A = ℕ} 0 1 = cc in
-    omega arith

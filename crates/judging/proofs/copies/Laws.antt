@@ -10,7 +10,7 @@ use lib.ListN.{length, getD, set, length-set}
 use lib.Seq.{getD-set-same, getD-set-other}
 use Rattle.paper.specs.Types.{Ty, unit, int, lock, ref, fun, tySize}
 use Rattle.judging.specs.Holds.{Holds, Byte, Four}
-use Rattle.judging.proofs.Held.{held, holds-end, by-lock, by-ref, by-fun, by-leaf, kept-wider, kept-then, kept-refl, kept-set}
+use Rattle.judging.proofs.Held.{held, holds-end, by-lock, by-leaf, kept-wider, kept-then, kept-refl, kept-set}
 use Rattle.judging.specs.Copies.{Copied, Movable, Moved, Some, Ends}
 
 pub none : (s : List ℕ) (from : ℕ) (w : List ℕ) (to : ℕ) → Copied s from 0 w w to
@@ -90,6 +90,18 @@ code-first s w w′ at n b c e h l =
         rw (x, y) (c .same (j - 1) (omega arith))
 
 -- ---- a type moved within its buffer
+
+-- Unit and Int are their code
+pub moved-leaf : (w : List ℕ) (from to b : ℕ) → Movable w from to → b ≡ getD w from 0 → b < 34 → Moved w (set w to b) from to
+moved-leaf w from to b M e l =
+    record {
+      kept = kept-wider (kept-set w to b) to (to + 256) (omega arith) (omega arith);
+      holds = λ t h. by-leaf (λ t. Holds (set w to b) to t) w from t h (λ x. omega arith) (λ x. omega arith) (λ x. omega arith) (λ x. is x) (λ x. is x);
+    }
+  where
+    is : {k : ℕ} → getD w from 0 ≡ k → Byte (set w to b) to k
+    is x = let r = M .3 in (omega (arith, length-set w to b), getD-set-same w to b 0 (omega arith) ∙ e ∙ x)
+
 module _ (w : List ℕ) (from to p : ℕ) (M : Movable w from to) (d : Ends w from p) where
   pub move-room : (from ≤ p) × (p ≤ length w) × (p ≤ from + 256) × (to + 256 ≤ length w)
   move-room =
@@ -125,27 +137,3 @@ module _ (s : List ℕ) (at : ℕ) where
   pub end-lock : getD s at 0 ≡ 34 → Ends s at (at + 2)
   unfolding tySize
   end-lock e t h = by-lock (λ t. at + 2 ≡ at + tySize t) s at t h e (λ a b. refl)
-
-  pub name-in : getD s at 0 ≡ 34 → Some s at → at + 1 < length s
-  name-in e h = by-lock (λ t. at + 1 < length s) s at (h .0) (h .1) e (λ a b. b .0)
-
-  pub ref-in : getD s at 0 ≡ 35 → Some s at → Some s (at + 2)
-  ref-in e h = by-ref (λ t. Some s (at + 2)) s at (h .0) (h .1) e (λ a t b g. (t, g))
-
-  pub end-ref : {r : ℕ} → getD s at 0 ≡ 35 → Ends s (at + 2) r → Ends s at r
-  unfolding tySize
-  end-ref {r} e d t h = by-ref (λ t. r ≡ at + tySize t) s at t h e (λ a t b g. d t g ∙ omega arith)
-
-  pub arg-in : getD s at 0 ≡ 36 → Some s at → Some s (at + 1)
-  arg-in e h = by-fun (λ t. Some s (at + 1)) s at (h .0) (h .1) e (λ a m b ha hm hb. (a, ha))
-
-  module _ (e : getD s at 0 ≡ 36) (p : ℕ) (d : Ends s (at + 1) p) where
-    pub result-in : Some s at → Some s (p + 4)
-    result-in h = by-fun (λ t. Some s (p + 4)) s at (h .0) (h .1) e (λ a m b ha hm hb. rw (d a ha) (b, hb))
-
-    pub set-in : Some s at → (at < p) × (p + 4 ≤ length s)
-    set-in h = by-fun (λ t. (at < p) × (p + 4 ≤ length s)) s at (h .0) (h .1) e (λ a m b ha hm hb. let z = d a ha in (omega arith, rw z (hm .0)))
-
-    pub end-fun : {r : ℕ} → Ends s (p + 4) r → Ends s at r
-    unfolding tySize
-    end-fun {r} d₂ t h = by-fun (λ t. r ≡ at + tySize t) s at t h e (λ a m b ha hm hb. let z = d a ha in let y = d₂ b (rw z hb) in omega arith)

@@ -1,4 +1,4 @@
--- The steps that only keep the first part's type, or ask for its kind, and a fork's.
+-- The steps that ask for the kind of the first part, and a fork's.
 use mathlib.Core.Path.{_≡_, refl, ap, sym, _∙_, subst}
 use mathlib.Core.List.{List}
 use Prim.Native.Nat.{ℕ, _+_, _-_, _<_, _≤_}
@@ -16,11 +16,12 @@ use Rattle.judging.specs.Copies.{Movable, Moved}
 use Rattle.reading.specs.Placed as e
 use Rattle.reading.specs.Placed.{Exp, placeOf}
 use Rattle.reading.specs.Walk.{locks1}
+use Rattle.reading.proofs.first.Laws.{by-code}
 use Rattle.judging.specs.Rules.{typed, refused, test, asFun, asRef, asLock, asInt}
 use Rattle.judging.specs.declared.work.Step.the-variants.{Go, Stop}
 use Rattle.judging.specs.Phases.{partsOf, after1}
 use Rattle.judging.specs.Work.{slot}
-use Rattle.judging.specs.Contract.{StepOut, Given, First, Some1, place1, Due, due5, due8, due11, due14, due15, Plain1}
+use Rattle.judging.specs.Contract.{StepOut, Given, First, Some1, place1, Due, due5, due8, due11, due14, due15, Walks}
 use Rattle.judging.proofs.Buffer.{slot-moved, slot-movable}
 use Rattle.judging.proofs.Cases.{codeNum, by-app, by-write, by-sync, by-add, by-ifNot0, by-fork}
 use Rattle.judging.proofs.Node.{read-whole}
@@ -39,27 +40,16 @@ tcode-held w i (lock k) h = h .0 .1
 tcode-held w i (ref k t) h = h .0 .1
 tcode-held w i (fun a m b) h = h .0 .1
 
+int-is : (t : Ty) → tcode t ≡ 33 → t ≡ int
+int-is unit e = absurd (omega arith)
+int-is int e = refl
+int-is (lock k) e = absurd (omega arith)
+int-is (ref k t) e = absurd (omega arith)
+int-is (fun a m b) e = absurd (omega arith)
+
 locks1-not : (b : ℕ) → (b ≡ 10 → ⊥) → locks1 b ≡ 0
 unfolding locks1
 locks1-not b y = rw (ne-eqb b 10 y)
-
-plain-1 : (x : Exp) (t : Ty) (m : ℕ) → Plain1 (codeNum x) → after1 x t m ≡ typed t m
-unfolding after1
-plain-1 (e.unit p) y m h = refl
-plain-1 (e.num p i) y m h = refl
-plain-1 (e.var p i) y m h = refl
-plain-1 (e.lam p t s a) y m h = absurd (h .not4 refl)
-plain-1 (e.app p a b) y m h = absurd (h .not5 refl)
-plain-1 (e.cell p k t a) y m h = absurd (h .not6 refl)
-plain-1 (e.read p a) y m h = absurd (h .not7 refl)
-plain-1 (e.write p a b) y m h = absurd (h .not8 refl)
-plain-1 (e.fork p a) y m h = absurd (h .not9 refl)
-plain-1 (e.newLock p a) y m h = absurd (h .not10 refl)
-plain-1 (e.sync p a b) y m h = absurd (h .not11 refl)
-plain-1 (e.letIn p a b) y m h = refl
-plain-1 (e.seq p a b) y m h = refl
-plain-1 (e.add p a b) y m h = absurd (h .not14 refl)
-plain-1 (e.ifNot0 p t a b c) y m h = absurd (h .not15 refl)
 
 -- a part of the kind due, or refusal 11 at it
 pub record Kinds (x : Exp) (t : Ty) (m k : ℕ) : Type 0 where
@@ -135,7 +125,33 @@ due-flat b k (due11 p q) z = omega arith
 due-flat b k (due14 p q) z = omega arith
 due-flat b k (due15 p q) z = omega arith
 
+-- the codes that are left where the others were asked for
+abbrev Others : ℕ → Type 0
+Others b = Walks b → (b ≡ 4 → ⊥) → (b ≡ 5 → ⊥) → (b ≡ 6 → ⊥) → (b ≡ 7 → ⊥) → (b ≡ 8 → ⊥) → (b ≡ 9 → ⊥) → (b ≡ 10 → ⊥) → (b ≡ 11 → ⊥) → Due b 33
+
+due-int : (b : ℕ) → (b ≡ 0 → ⊥) → b ≤ 15 → Others b
+due-int b z u =
+    by-code Others b z u
+    (λ W a4 a5 a6 a7 a8 a9 a10 a11. absurd (omega (arith, W .some)))
+    (λ W a4 a5 a6 a7 a8 a9 a10 a11. absurd (omega (arith, W .some)))
+    (λ W a4 a5 a6 a7 a8 a9 a10 a11. absurd (omega (arith, W .some)))
+    (λ W a4 a5 a6 a7 a8 a9 a10 a11. absurd (a4 refl))
+    (λ W a4 a5 a6 a7 a8 a9 a10 a11. absurd (a5 refl))
+    (λ W a4 a5 a6 a7 a8 a9 a10 a11. absurd (a6 refl))
+    (λ W a4 a5 a6 a7 a8 a9 a10 a11. absurd (a7 refl))
+    (λ W a4 a5 a6 a7 a8 a9 a10 a11. absurd (a8 refl))
+    (λ W a4 a5 a6 a7 a8 a9 a10 a11. absurd (a9 refl))
+    (λ W a4 a5 a6 a7 a8 a9 a10 a11. absurd (a10 refl))
+    (λ W a4 a5 a6 a7 a8 a9 a10 a11. absurd (a11 refl))
+    (λ W a4 a5 a6 a7 a8 a9 a10 a11. absurd (W .no-let refl))
+    (λ W a4 a5 a6 a7 a8 a9 a10 a11. absurd (W .no-then refl))
+    (λ W a4 a5 a6 a7 a8 a9 a10 a11. due14 refl refl)
+    (λ W a4 a5 a6 a7 a8 a9 a10 a11. due15 refl refl)
+
 module _ {img w : List ℕ} {at n left : ℕ} (O : Some1 img w at n left) where
+  pub others : Others (getD img at 0)
+  others = let W = read-whole left (O .0) n img at (O .1) (O .2 .next) (O .2 .reads) in due-int (getD img at 0) (W .some) (W .most)
+
   pub facts : (1 ≤ left) × (left ≤ 64) × (at < length img) × (40960 ≤ length w) × (n ≤ 32)
   facts =
       let W = read-whole left (O .0) n img at (O .1) (O .2 .next) (O .2 .reads) in
@@ -149,18 +165,6 @@ module _ {img w : List ℕ} {at n left : ℕ} (O : Some1 img w at n left) where
   coded v x G = read-whole left v n img at x (G .next) (G .reads) .is .coded
 
   module _ {part need : ℕ} where
-    pub plain-first : (w′ : List ℕ) → Plain1 (getD img at 0) → Moved w w′ (slot (left - 1)) (slot left) → First img w w′ at n left part need (Go need)
-    plain-first w′ P c =
-        let F = facts in
-        record {
-          kept = c .kept;
-          says = λ v x G pl t I s.
-              let z = coded v x G in
-              let l : n + locks1 (getD img at 0) ≡ n = ap (λ (k : ℕ). n + k) (locks1-not (getD img at 0) (P .not10)) ∙ add-zero n in
-              let y = plain-1 x t need (subst Plain1 (sym z) P) in
-              rw y (refl, slot-moved w w′ left n t c (rw l at I), rw l at s);
-        }
-
     -- the part's code is not the one due
     pub due-stop : (k : ℕ) → Due (getD img at 0) k → (getD w (slot (left - 1)) 0 ≡ k → ⊥) → First img w w at n left part need (Stop 11 part)
     due-stop k D z =
@@ -184,6 +188,20 @@ module _ {img w : List ℕ} {at n left : ℕ} (O : Some1 img w at n left) where
               let y : after1 x t need ≡ typed t need = K .is ∙ rw (eq-eqb (tcode t) k f) in
               let l : n + locks1 (getD img at 0) ≡ n = ap (λ (k : ℕ). n + k) (locks1-not (getD img at 0) (due-flat (getD img at 0) k D)) ∙ add-zero n in
               rw y (refl, slot-moved w w′ left n t c (rw l at I), rw l at s);
+        }
+
+    pub int-first : Due (getD img at 0) 33 → getD w (slot (left - 1)) 0 ≡ 33 → First img w (set w (slot left) 33) at n left part need (Go need)
+    unfolding tySize
+    int-first D z =
+        let F = facts in
+        record {
+          kept = kept-wider (kept-set w (slot left) 33) (slot left) (slot left + 256) (omega arith) (omega arith);
+          says = λ v x G pl t I s.
+              let K = kinds (getD img at 0) 33 D x t need (coded v x G) in
+              let f : tcode t ≡ 33 = sym (tcode-held w (slot (left - 1)) t (I .there)) ∙ z in
+              let y : after1 x t need ≡ typed int need = K .is ∙ rw (eq-eqb (tcode t) 33 f) (ap (λ (t : Ty). typed t need) (int-is t f)) in
+              let l : n + locks1 (getD img at 0) ≡ n = ap (λ (k : ℕ). n + k) (locks1-not (getD img at 0) (due-flat (getD img at 0) 33 D)) ∙ add-zero n in
+              rw y (refl, record { there = (omega (arith, length-set w (slot left) 33), getD-set-same w (slot left) 33 0 (omega arith)); within = tt; short = omega arith }, rw l at s);
         }
 
     pub fork-stop : getD img at 0 ≡ 9 → (need ≡ 0 → ⊥) → First img w w at n left part need (Stop 14 at)

@@ -4,12 +4,13 @@ use mathlib.Core.Bool.{true, false}
 use mathlib.Core.List.{List}
 use Prim.Native.Nat.{ℕ, _+_, _-_}
 use lib.Bits.{or-lt, bitOr}
-use lib.ListN.{getD}
+use native.Mathlib.Omega.{arith}
+use lib.ListN.{length, getD, set, length-set}
+use lib.Seq.{getD-set-same}
 use Rattle.paper.specs.Sets.{union}
-use Rattle.paper.specs.Types.{Ty, tySize, subtype, related, below}
+use Rattle.paper.specs.Types.{Ty, unit, tySize, subtype, related, below}
 use Rattle.judging.specs.Holds.{Holds}
-use Rattle.judging.proofs.Held.{kept-refl}
-use Rattle.judging.specs.Copies.{Moved}
+use Rattle.judging.proofs.Held.{kept-refl, kept-wider, kept-set}
 use Rattle.judging.specs.Subtype.{Related}
 use Rattle.judging.specs.declared.subtype.Cmp.{Cmp}
 use Rattle.judging.specs.declared.subtype.Cmp.the-variants.{Next, Differ}
@@ -21,7 +22,6 @@ use Rattle.judging.proofs.Gone.{gone, two-needs}
 use Rattle.judging.specs.Phases.{partsOf, after2}
 use Rattle.judging.specs.Work.{slot, InSlot}
 use Rattle.judging.specs.Contract.{StepOut, Given, Second, Some2, place2}
-use Rattle.judging.proofs.Buffer.{slot-moved}
 use Rattle.judging.proofs.Cases.{by-ifNot0}
 use Rattle.judging.proofs.Node.{Facts, read-whole}
 use Rattle.judging.proofs.second.Plain.{facts, coded}
@@ -43,14 +43,15 @@ module _ {img w : List ℕ} {at n left part m need : ℕ} {r : Cmp} (O : Some2 i
             (λ t a c d p h pl. let q : subtype u t ≡ false = sym (sub-is u t) ∙ cmp-differ (slot (left - 1) + tySize u) (related below u t) (sym f ∙ D .says u t (J .there) h) in rw (q, pl)) pl;
       }
 
-  pub cond-go : (q₀ : ℕ) (w′ : List ℕ) → r ≡ Next q₀ → Moved w w′ (slot (left - 1)) (slot left) → Second img w w′ at n left part m need (Go (bitOr m need))
-  unfolding after2
-  cond-go q₀ w′ f c =
+  pub cond-go : (q₀ : ℕ) → r ≡ Next q₀ → Second img w (set w (slot left) 32) at n left part m need (Go (bitOr m need))
+  unfolding after2 tySize
+  cond-go q₀ f =
       let F = facts O in
       record {
-        kept = c .kept;
+        kept = kept-wider (kept-set w (slot left) 32) (slot left) (slot left + 256) (omega arith) (omega arith);
         says = λ v x G pl k K I sm u J su.
-            by-cond ez v x (λ x. StepOut w′ left n (after2 x k m u need) (Go (bitOr m need))) G
+            by-cond ez v x (λ x. StepOut (set w (slot left) 32) left n (after2 x k m u need) (Go (bitOr m need))) G
             (λ t a c₀ d p h. let q : subtype u t ≡ true = sym (sub-is u t) ∙ cmp-next (slot (left - 1) + tySize u) q₀ (related below u t) (sym f ∙ D .says u t (J .there) h) .0 in
-            rw q (gone n (bitOr m need) (union m need) (InSlot w′ left n u) (two-needs n m need (G .few) sm su) (or-lt n m need sm su) (slot-moved w w′ left n u c J)));
+            rw q (gone n (bitOr m need) (union m need) (InSlot (set w (slot left) 32) left n unit) (two-needs n m need (G .few) sm su) (or-lt n m need sm su)
+            (record { there = (omega (arith, length-set w (slot left) 32), getD-set-same w (slot left) 32 0 (omega arith)); within = tt; short = omega arith })));
       }

@@ -1,4 +1,4 @@
--- The steps that keep the second part's type, those of a section and an addition.
+-- The steps after the second part of a section and of an addition.
 use mathlib.Core.Path.{_≡_, refl, sym, _∙_, subst}
 use mathlib.Core.List.{List}
 use Prim.Native.Nat.{ℕ, _+_, _-_, _^_, _<_, _≤_}
@@ -13,33 +13,17 @@ use Rattle.judging.proofs.Held.{kept-refl, kept-wider, kept-set}
 use Rattle.judging.specs.Copies.{Movable, Moved}
 use Rattle.reading.specs.Placed as e
 use Rattle.reading.specs.Placed.{Exp, placeOf}
+use Rattle.reading.specs.Walk.{parts}
+use Rattle.reading.proofs.first.Laws.{by-code}
 use Rattle.judging.specs.Rules.{Judged, typed, refused, asLock, asInt}
 use Rattle.judging.specs.declared.work.Step.the-variants.{Go, Stop}
 use Rattle.judging.proofs.Gone.{gone, two-needs, less-small}
 use Rattle.judging.specs.Phases.{partsOf, after1, after2}
 use Rattle.judging.specs.Work.{slot, InSlot}
-use Rattle.judging.specs.Contract.{StepOut, Given, Second, Some2, place2, Kept1, Plain2}
+use Rattle.judging.specs.Contract.{StepOut, Given, Second, Some2, place2, Kept1, Walks}
 use Rattle.judging.proofs.Buffer.{slot-moved, slot-movable}
 use Rattle.judging.proofs.Cases.{codeNum, by-sync, by-add}
 use Rattle.judging.proofs.Node.{read-whole}
-
-plain-2 : (x : Exp) (k : Ty) (m : ℕ) (u : Ty) (n : ℕ) → Plain2 (codeNum x) → after2 x k m u n ≡ typed u (union m n)
-unfolding after2
-plain-2 (e.unit p) k m u n h = refl
-plain-2 (e.num p i) k m u n h = refl
-plain-2 (e.var p i) k m u n h = refl
-plain-2 (e.lam p t s a) k m u n h = refl
-plain-2 (e.app p a b) k m u n h = absurd (h .not5 refl)
-plain-2 (e.cell p j t a) k m u n h = refl
-plain-2 (e.read p a) k m u n h = refl
-plain-2 (e.write p a b) k m u n h = absurd (h .not8 refl)
-plain-2 (e.fork p a) k m u n h = refl
-plain-2 (e.newLock p a) k m u n h = refl
-plain-2 (e.sync p a b) k m u n h = absurd (h .not11 refl)
-plain-2 (e.letIn p a b) k m u n h = refl
-plain-2 (e.seq p a b) k m u n h = refl
-plain-2 (e.add p a b) k m u n h = absurd (h .not14 refl)
-plain-2 (e.ifNot0 p t a b c) k m u n h = absurd (h .not15 refl)
 
 data IsLock : Ty → Type 0 where
   is-lock : (k : ℕ) → IsLock (lock k)
@@ -71,12 +55,24 @@ not-33 w i (lock a) p f h z = refl
 not-33 w i (ref a t) p f h z = refl
 not-33 w i (fun a s y) p f h z = refl
 
+-- the code that is left where the others were asked for
+if-last : (b : ℕ) → (b ≡ 0 → ⊥) → b ≤ 15 → Walks b → (parts b ≡ 1 → ⊥) → (b ≡ 5 → ⊥) → (b ≡ 8 → ⊥) → (b ≡ 11 → ⊥) → (b ≡ 14 → ⊥) → b ≡ 15
+unfolding parts
+if-last b z u =
+    by-code (λ b. Walks b → (parts b ≡ 1 → ⊥) → (b ≡ 5 → ⊥) → (b ≡ 8 → ⊥) → (b ≡ 11 → ⊥) → (b ≡ 14 → ⊥) → b ≡ 15) b z u
+    (λ W. absurd (omega (arith, W .some))) (λ W. absurd (omega (arith, W .some))) (λ W. absurd (omega (arith, W .some)))
+    (λ W n. absurd (n refl)) (λ W n a. absurd (a refl)) (λ W n. absurd (n refl)) (λ W n. absurd (n refl)) (λ W n a b. absurd (b refl)) (λ W n. absurd (n refl)) (λ W n. absurd (n refl))
+    (λ W n a b c. absurd (c refl)) (λ W. absurd (W .no-let refl)) (λ W. absurd (W .no-then refl)) (λ W n a b c d. absurd (d refl)) (λ W n a b c d. refl)
+
 module _ {img w : List ℕ} {at n left : ℕ} (O : Some2 img w at n left) where
   pub facts : (1 ≤ left) × (left ≤ 64) × (at < length img) × (40960 ≤ length w) × (n ≤ 32)
   facts =
       let W = read-whole left (O .0) n img at (O .1) (O .2 .next) (O .2 .reads) in
       let z = W .more in
       (omega arith, omega (arith, O .2 .deep), W .inn, O .2 .room, O .2 .few)
+
+  pub coded-15 : Walks (getD img at 0) → (parts (getD img at 0) ≡ 1 → ⊥) → (getD img at 0 ≡ 5 → ⊥) → (getD img at 0 ≡ 8 → ⊥) → (getD img at 0 ≡ 11 → ⊥) → (getD img at 0 ≡ 14 → ⊥) → getD img at 0 ≡ 15
+  coded-15 = let W = read-whole left (O .0) n img at (O .1) (O .2 .next) (O .2 .reads) in if-last (getD img at 0) (W .some) (W .most)
 
   pub part-movable : Movable w (slot (left - 1)) (slot left)
   part-movable = let F = facts in slot-movable w left n (O .5) (F .3) (F .0) (F .1) (O .6)
@@ -91,16 +87,6 @@ module _ {img w : List ℕ} {at n left : ℕ} (O : Some2 img w at n left) where
       go k (is-lock a) I = omega (arith, I .there .1 .1, I .within, O .2 .few)
 
   module _ {part m need : ℕ} where
-    pub plain-second : (w′ : List ℕ) → Plain2 (getD img at 0) → Moved w w′ (slot (left - 1)) (slot left) → Second img w w′ at n left part m need (Go (bitOr m need))
-    plain-second w′ P c =
-        let F = facts in
-        record {
-          kept = c .kept;
-          says = λ v x G pl k K I sm u J su.
-              let y = plain-2 x k m u need (subst Plain2 (sym (coded v x G)) P) in
-              rw y (gone n (bitOr m need) (union m need) (InSlot w′ left n u) (two-needs n m need (G .few) sm su) (or-lt n m need sm su) (slot-moved w w′ left n u c J));
-        }
-
     pub sync-second : (w′ : List ℕ) → getD img at 0 ≡ 11 → Moved w w′ (slot (left - 1)) (slot left) → Second img w w′ at n left part m need (Go (bitOr m (less need (single (getD w (slot left + 1) 0)))))
     unfolding after2 asLock
     sync-second w′ e c =

@@ -2,7 +2,7 @@
 -- expression and any types of its variables that there may be: `Ready` is such a reading.
 use mathlib.Core.Path.{_≡_, refl, ap, sym, _∙_, subst}
 use mathlib.Core.List.{List}
-use Prim.Native.Nat.{ℕ, _+_, _-_, _^_, _<_}
+use Prim.Native.Nat.{ℕ, _+_, _-_, _*_, _^_, _<_}
 use native.Mathlib.Omega.{arith}
 use lib.ListN.{length, getD}
 use Rattle.paper.specs.Types.{Ty}
@@ -17,13 +17,13 @@ use Rattle.judging.specs.declared.work.Step.the-variants.{Go, Stop}
 use Rattle.judging.specs.Rules.{typed, refused, _next_, judge}
 use Rattle.judging.specs.Phases.{partsOf, env1, after1}
 use Rattle.judging.specs.Work.{Env, Frame, InSlot}
-use Rattle.judging.specs.Contract.{Out, StepOut, Ready, Finds, Entered, Bindable, Given, First, Kept1, Some1, Starts}
+use Rattle.judging.specs.Contract.{Out, StepOut, Ready, Finds, Entered, Given, First, Kept1, Some1, Starts}
 use Rattle.judging.proofs.Walked.{walked}
 use Rattle.judging.proofs.Node.{count, read-whole}
 use Rattle.judging.proofs.Buffer.{env-same, frame-then, frame-part, frame-env, frame-slot, out-refused, Gave, out-typed, step-stop, Went, step-go}
 use Rattle.judging.proofs.typing.Parts.{parts-some, binds1-le, head, rest1, walk-1, refused-next, typed-then, Then1, part-1, place-of, place1-head, one-more, one-rest}
 
-pub less-left : (left t : ℕ) → left ≡ t → (left ≡ 0 → ⊥) → left - 1 < t
+pub less-left : (left t : ℕ) → 2 * left ≡ t → (left ≡ 0 → ⊥) → 2 * (left - 1) + 1 < t
 less-left left t e z = omega arith
 
 module _ {img w : List ℕ} {at v n left : ℕ} where
@@ -193,22 +193,3 @@ module _ {img w w3 : List ℕ} {at v n left p2 l1 : ℕ} (A : After1 img w w3 at
       let y : judge (R .env) (R .x) ≡ typed (G .type) l1 = G .on ∙ one-rest (R .env) (R .x) (partsOf (R .x)) _ l1 z in
       let q : p2 ≡ R .next = one-more (left - 1) v n img (getD img at 0) p2 (R .next) (partsOf (R .x)) z (G .more) in
       rw y (ap (λ (p : ℕ). Typed p l1) q, G .slotted, G .small)
-
-  -- there is one
-  pub ready-bind : Bindable img w3 at v n left
-  ready-bind =
-      let R = A .ready in
-      record {
-        ready = record {
-          x = R .x;
-          next = R .next;
-          env = R .env;
-          reads = R .reads;
-          held = env-same w w3 v n (R .env) (A .frame .long) (A .frame .vars) (R .held);
-          deep = R .deep;
-          few = R .few;
-          room = rw (A .frame .long) (R .room);
-        };
-        type = A .each R .type;
-        there = A .each R .slotted;
-      }

@@ -3,11 +3,12 @@ use mathlib.Core.Path.{_≡_, ap, sym, _∙_, subst}
 use mathlib.Core.List.{List}
 use Prim.Native.Nat.{ℕ, _+_, _-_, _^_, _<_}
 use native.Mathlib.Omega.{arith}
+use native.Mathlib.Nat.{add-zero}
 use lib.ListN.{getD}
 use Rattle.paper.specs.Types.{Ty}
 use Rattle.paper.specs.Reading.{got}
 use Rattle.reading.specs.First.{expAt}
-use Rattle.reading.specs.Walk.{parts, binds2}
+use Rattle.reading.specs.Walk.{parts}
 use Rattle.judging.specs.declared.work.Answer.{Answer}
 use Rattle.judging.specs.declared.work.Answer.the-variants.{Typed, Refused}
 use Rattle.judging.specs.declared.work.Step.{Step}
@@ -15,10 +16,11 @@ use Rattle.judging.specs.declared.work.Step.the-variants.{Go, Stop}
 use Rattle.judging.specs.Rules.{typed, refused, _next_, judge}
 use Rattle.judging.specs.Phases.{partsOf, env2, after2}
 use Rattle.judging.specs.Work.{Env, Frame, InSlot}
-use Rattle.judging.specs.Contract.{Out, StepOut, Ready, Finds, Bound, Second, Some2}
+use Rattle.judging.specs.Contract.{Out, StepOut, Ready, Finds, Second, Some2}
 use Rattle.judging.proofs.Node.{count, read-whole}
-use Rattle.judging.proofs.Buffer.{env-same, slot-same, frame-then, frame-part, frame-env, frame-slot, out-refused, Gave, out-typed, step-stop, Went, step-go}
-use Rattle.judging.proofs.typing.Parts.{binds2-le, second, rest2, refused-next, typed-then, Then2, part-2, place-of, place2-second, two-rest, two-more, two-last}
+use Rattle.judging.proofs.Buffer.{env-same, slot-same, frame-then, frame-part, frame-slot, out-refused, Gave, out-typed, step-stop, Went, step-go}
+use Rattle.judging.proofs.binding.Env.{binds2-other, env2-other}
+use Rattle.judging.proofs.typing.Parts.{second, rest2, refused-next, typed-then, Then2, part-2, place-of, place2-second, two-rest, two-more, two-last}
 use Rattle.judging.proofs.typing.One.{finds, given, some-left, After1}
 
 -- what the step after the second part leaves: a type in the slot, the need so far, and what the rules' judge still does
@@ -37,62 +39,60 @@ pub record After2 (img w w6 : List ℕ) (at v n left p3 l2 : ℕ) : Type 0 where
   pub frame : Frame w w6 v left
   pub each : (R : Ready img w at v n left) → Goes2 img w w6 at v n left p3 l2 R
 
--- ---- the call of the second part is due: what it binds is bound
+-- ---- the call of the second part is due: it binds nothing
 
-pub record Due2 (img w w3 w4 : List ℕ) (at v n left p2 l1 : ℕ) : Type 0 where
+pub record Due2 (img w w3 : List ℕ) (at v n left p2 l1 : ℕ) : Type 0 where
   pub after : After1 img w w3 at v n left p2 l1
   pub more : parts (getD img at 0) ≡ 1 → ⊥
-  pub bound : Bound img w3 w4 at v n left
+  pub no-let : getD img at 0 ≡ 12 → ⊥
 
-module _ {img w w3 w4 : List ℕ} {at v n left p2 l1 : ℕ} (D : Due2 img w w3 w4 at v n left p2 l1) where
-  frame-4 : Frame w w4 v left
-  frame-4 = frame-then v left (D .after .frame) (frame-env v left (D .bound .change) (omega (arith, D .after .ready .deep)))
-
+module _ {img w w3 : List ℕ} {at v n left p2 l1 : ℕ} (D : Due2 img w w3 at v n left p2 l1) where
   more1 : (R : Ready img w at v n left) → count (partsOf (R .x)) ≡ 1 → ⊥
   more1 R e = D .more (D .after .each R .many ∙ e)
 
   record Read2 (R : Ready img w at v n left) : Type 0 where
     q : ℕ
-    part : expAt (left - 1) (v + binds2 (getD img at 0)) n img p2 ≡ got (second (partsOf (R .x))) q
+    part : expAt (left - 1) v n img p2 ≡ got (second (partsOf (R .x))) q
     after : Then2 (left - 1) v n img q (R .next) (partsOf (R .x))
 
   read-2 : (R : Ready img w at v n left) → Read2 R
   read-2 R =
       let P = part-2 (left - 1) v n img (getD img at 0) p2 (R .next) (partsOf (R .x)) (D .after .each R .not0) (more1 R) (D .after .each R .more) in
-      record { q = P .0; part = P .1; after = P .2 }
+      record { q = P .0; part = rw (binds2-other (getD img at 0) (D .no-let), add-zero v) at (P .1); after = P .2 }
 
-  held-2 : (R : Ready img w at v n left) → Env w4 (v + binds2 (getD img at 0)) n (env2 (R .x) (D .after .each R .type) (R .env))
-  held-2 R =
-      D .bound .says (R .x) (R .next) (R .env) (D .after .each R .type) (R .reads) (env-same w w3 v n (R .env) (D .after .frame .long) (D .after .frame .vars) (R .held)) (D .after .each R .slotted)
+  same-2 : (R : Ready img w at v n left) → env2 (R .x) (D .after .each R .type) (R .env) ≡ R .env
+  same-2 R = env2-other (R .x) _ (R .env) (λ f. D .no-let (sym (read-whole left v n img at (R .x) (R .next) (R .reads) .is .coded) ∙ f))
 
-  pub ready-2 : Ready img w4 p2 (v + binds2 (getD img at 0)) n (left - 1)
+  held-2 : (R : Ready img w at v n left) → Env w3 v n (R .env)
+  held-2 R = env-same w w3 v n (R .env) (D .after .frame .long) (D .after .frame .vars) (R .held)
+
+  pub ready-2 : Ready img w3 p2 v n (left - 1)
   ready-2 =
       let R = D .after .ready in
-      let W = read-whole left v n img at (R .x) (R .next) (R .reads) in
-      let b2 = binds2-le (getD img at 0) (W .some) (W .most) in
-      let l2 : left ≡ 0 → ⊥ = W .more in
       record {
         x = second (partsOf (R .x));
         next = read-2 R .q;
-        env = env2 (R .x) (D .after .each R .type) (R .env);
+        env = R .env;
         reads = read-2 R .part;
         held = held-2 R;
         deep = omega (arith, R .deep);
         few = R .few;
-        room = omega (arith, R .room, frame-4 .long);
+        room = omega (arith, R .room, D .after .frame .long);
       }
 
   -- after the call
-  module _ {r2 : Answer} {w5 : List ℕ} (J2 : Finds img w4 w5 p2 (v + binds2 (getD img at 0)) n (left - 1) r2) where
+  module _ {r2 : Answer} {w5 : List ℕ} (J2 : Finds img w3 w5 p2 v n (left - 1) r2) where
     pub frame-5 : Frame w w5 v left
-    frame-5 = frame-then v left frame-4 (frame-part v left (binds2 (getD img at 0)) (J2 .frame) (omega (arith, D .after .ready .deep)))
+    frame-5 = frame-then v left (D .after .frame) (frame-part v left 0 (rw (add-zero v) (J2 .frame)) (omega (arith, D .after .ready .deep)))
 
-    out-2 : (R : Ready img w at v n left) → Out w5 (left - 1) n (read-2 R .q) (judge (env2 (R .x) (D .after .each R .type) (R .env)) (second (partsOf (R .x)))) r2
-    out-2 R = J2 .says (second (partsOf (R .x))) (read-2 R .q) (env2 (R .x) (D .after .each R .type) (R .env)) (read-2 R .part) (held-2 R)
+    out-2 : (R : Ready img w at v n left) → Out w5 (left - 1) n (read-2 R .q) (judge (R .env) (second (partsOf (R .x)))) r2
+    out-2 R = J2 .says (second (partsOf (R .x))) (read-2 R .q) (R .env) (read-2 R .part) (held-2 R)
 
     at-2 : (R : Ready img w at v n left)
-        → judge (R .env) (R .x) ≡ (judge (env2 (R .x) (D .after .each R .type) (R .env)) (second (partsOf (R .x))) next λ u i. after2 (R .x) (D .after .each R .type) l1 u i next λ t o. rest2 (R .env) (R .x) (partsOf (R .x)) t o)
-    at-2 R = D .after .each R .on ∙ two-rest (R .env) (R .x) (partsOf (R .x)) (D .after .each R .type) l1 (D .after .each R .not0) (more1 R)
+        → judge (R .env) (R .x) ≡ (judge (R .env) (second (partsOf (R .x))) next λ u i. after2 (R .x) (D .after .each R .type) l1 u i next λ t o. rest2 (R .env) (R .x) (partsOf (R .x)) t o)
+    at-2 R =
+        D .after .each R .on ∙ two-rest (R .env) (R .x) (partsOf (R .x)) (D .after .each R .type) l1 (D .after .each R .not0) (more1 R)
+        ∙ ap (λ (v : List Ty). judge v (second (partsOf (R .x))) next λ u i. after2 (R .x) (D .after .each R .type) l1 u i next λ t o. rest2 (R .env) (R .x) (partsOf (R .x)) t o) (same-2 R)
 
     pub refused-2 : {k p : ℕ} → r2 ≡ Refused k p → Finds img w w5 at v n left (Refused k p)
     refused-2 {k} {p} f =
@@ -105,12 +105,11 @@ module _ {img w w3 w4 : List ℕ} {at v n left p2 l1 : ℕ} (D : Due2 img w w3 w
     still : (R : Ready img w at v n left) → InSlot w5 left n (D .after .each R .type)
     still R =
         let l2 : left ≡ 0 → ⊥ = some-left R in
-        slot-same w4 w5 left n (D .after .each R .type) (J2 .frame .long) (λ i a c. J2 .frame .kept i (omega (arith, R .deep)) (omega (arith, R .deep)))
-        (slot-same w3 w4 left n (D .after .each R .type) (D .bound .change .long) (λ i a c. D .bound .change .rest i (omega (arith, R .deep))) (D .after .each R .slotted))
+        slot-same w3 w5 left n (D .after .each R .type) (J2 .frame .long) (λ i a c. J2 .frame .kept i (omega (arith, R .deep)) (omega (arith, R .deep))) (D .after .each R .slotted)
 
     -- the part has a type
     module _ {p3 m2 : ℕ} (T2 : r2 ≡ Typed p3 m2) where
-      gave-2 : (R : Ready img w at v n left) → Gave w5 (left - 1) n (read-2 R .q) (judge (env2 (R .x) (D .after .each R .type) (R .env)) (second (partsOf (R .x)))) p3 m2
+      gave-2 : (R : Ready img w at v n left) → Gave w5 (left - 1) n (read-2 R .q) (judge (R .env) (second (partsOf (R .x)))) p3 m2
       gave-2 R = out-typed w5 (left - 1) n (read-2 R .q) _ (out-2 R) T2
 
       pub some-2 : Some2 img w5 at n left
@@ -124,7 +123,7 @@ module _ {img w w3 w4 : List ℕ} {at v n left p2 l1 : ℕ} (D : Due2 img w w3 w
         step-2 : (R : Ready img w at v n left) → StepOut w6 left n (after2 (R .x) (D .after .each R .type) l1 (gave-2 R .type) m2) s2
         step-2 R =
             A2 .says v (R .x) (given R w5 (frame-5 .long))
-            (place2-second (partsOf (R .x)) (D .after .each R .not0) (more1 R) ∙ place-of (left - 1) (v + binds2 (getD img at 0)) n img p2 (second (partsOf (R .x))) (read-2 R .q) (read-2 R .part))
+            (place2-second (partsOf (R .x)) (D .after .each R .not0) (more1 R) ∙ place-of (left - 1) v n img p2 (second (partsOf (R .x))) (read-2 R .q) (read-2 R .part))
             (D .after .each R .type) (D .after .each R .was) (still R) (D .after .each R .small) (gave-2 R .type) (gave-2 R .slotted) (gave-2 R .small)
 
         from-2 : (R : Ready img w at v n left) → judge (R .env) (R .x) ≡ (after2 (R .x) (D .after .each R .type) l1 (gave-2 R .type) m2 next λ t o. rest2 (R .env) (R .x) (partsOf (R .x)) t o)

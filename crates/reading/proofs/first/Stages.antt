@@ -1,5 +1,5 @@
--- The ways out of `read_code` and `read_exp`, in the order of their tests and calls: each law takes the facts that led there.
-use mathlib.Core.Path.{_≡_, _∙_}
+-- The ways out of `read_code` and `read_lead`, in the order of their tests and calls: each law takes the facts that led there.
+use mathlib.Core.Path.{_≡_, refl, sym, _∙_}
 use mathlib.Core.List.{List}
 use Prim.Native.Nat.{ℕ, _+_, _-_, _≤_, _<_}
 use native.Mathlib.Omega.{arith}
@@ -8,10 +8,11 @@ use Rattle.paper.specs.Reading.{readExp}
 use Rattle.types.specs.declared.stated.Got.{Got}
 use Rattle.types.specs.declared.stated.Got.the-variants.{Next, Refused}
 use Rattle.types.specs.Told.{told}
+use Rattle.reading.specs.declared.first.Lead.the-variants.{Whole, Wrong, Last}
 use Rattle.types.proofs.stated.Laws.{on-refused, on-next}
 use Rattle.reading.specs.First.{expAt}
 use Rattle.reading.specs.Contract as Contract
-use Rattle.reading.specs.Contract.{OwnFields, PartsOf, FirstBinds, FirstLocks, SecondBinds, CodeRead}
+use Rattle.reading.specs.Contract.{OwnFields, PartsOf, FirstBinds, FirstLocks, SecondBinds, CodeRead, Led}
 use Rattle.reading.proofs.first.Laws as laws
 use Rattle.reading.proofs.first.Laws.{walk, first, second, exp-ended, exp-zero, exp-high, exp-deep, exp-walk}
 use Rattle.reading.proofs.first.Agree.{exp-told, exp-back}
@@ -57,45 +58,104 @@ module _ (s : List ℕ) (i v n d : ℕ) where
   abbrev code : ℕ
   code = getD s i 0
 
+  led-wrong : {k p : ℕ} → Answer (Refused k p) → Led s i v n d (Wrong k p)
+  led-wrong e = record {
+    whole = λ f. absurd (let z : _≡_ {A = ℕ} 0 1 = cc in omega arith);
+    wrong = λ f. cc;
+    last = λ f. absurd (let z : _≡_ {A = ℕ} 0 1 = cc in omega arith);
+    room = λ f. absurd (let z : _≡_ {A = ℕ} 0 1 = cc in omega arith);
+  }
+
+  led-whole : {p : ℕ} → Answer (Next p) → Led s i v n d (Whole p)
+  led-whole e = record {
+    whole = λ f. cc;
+    wrong = λ f. absurd (let z : _≡_ {A = ℕ} 0 1 = cc in omega arith);
+    last = λ f. absurd (let z : _≡_ {A = ℕ} 0 1 = cc in omega arith);
+    room = λ f. absurd (let z : _≡_ {A = ℕ} 0 1 = cc in omega arith);
+  }
+
+  led-last : {p u m : ℕ} → ((r : Got) → Part u m p r → Answer r) → (u + (d - 1) ≤ 64) × (m ≤ 32) × (0 < d) → Led s i v n d (Last p u m)
+  led-last {p} {u} {m} e h = record {
+    whole = λ f. absurd (let z : _≡_ {A = ℕ} 0 1 = cc in omega arith);
+    wrong = λ f. absurd (let z : _≡_ {A = ℕ} 0 1 = cc in omega arith);
+    last = λ f. same f;
+    room = λ f. room f;
+  }
+    where
+      same : {p′ u′ m′ : ℕ} → Last p u m ≡ Last p′ u′ m′ → told (readExp 1 (d - 1) s m′ u′ p′) ≡ told (readExp 1 d s n v i)
+      same f = e (told (readExp 1 (d - 1) s _ _ _)) (cc)
+
+      room : {p′ u′ m′ : ℕ} → Last p u m ≡ Last p′ u′ m′ → (u′ + (d - 1) ≤ 64) × (m′ ≤ 32) × (0 < d)
+      room {p′} {u′} {m′} f =
+          let x : u′ ≡ u = cc in
+          let y : m′ ≡ m = cc in
+          omega arith
+
+  pub code-refused : {r : Got} {k p : ℕ} → CodeRead s i d r → r ≡ Refused k p → Led s i v n d (Wrong k p)
+  code-refused h e = led-wrong (sym e ∙ h .wrong e n v)
+
   module _ (is-due : Contract.Due s i d) {r₀ : Got} (own : OwnFields s i code v n r₀) where
     walked : {y : Got} → y ≡ walk (d - 1) v n s i code → Answer y
     walked e = exp-told s i d n v (e ∙ exp-walk v n s i (is-due .inside) d (is-due .deep) (is-due .least) (is-due .most))
 
-    pub fields-refused : {k p : ℕ} → r₀ ≡ Refused k p → Answer r₀
-    fields-refused e = e ∙ walked (on-refused _ (fields-back s i code v n (is-due .inside) own) e)
+    pub fields-refused : {k p : ℕ} → r₀ ≡ Refused k p → Led s i v n d (Wrong k p)
+    fields-refused e = led-wrong (walked (on-refused _ (fields-back s i code v n (is-due .inside) own) e))
 
     module _ {p m : ℕ} (e₀ : r₀ ≡ Next p) (parts : PartsOf code m) where
       after-fields : {y : Got} → y ≡ first (d - 1) v n s i code p → Answer y
       after-fields e = walked (on-next _ (fields-back s i code v n (is-due .inside) own) e₀ e)
 
-      pub no-parts : m ≡ 0 → Answer (Next p)
-      no-parts e = after-fields (laws.first-done (d - 1) v n s i code m (parts .said) e)
+      pub no-parts : m ≡ 0 → Led s i v n d (Whole p)
+      no-parts e = led-whole (after-fields (laws.first-done (d - 1) v n s i code m (parts .said) e))
 
-      module _ (some : m ≡ 0 → ⊥) {x y : ℕ} {r₁ : Got} (binds : FirstBinds code x) (locks : FirstLocks code y) (read : Part (v + x) (n + y) p r₁) where
-        pub first-refused : {k q : ℕ} → r₁ ≡ Refused k q → Answer r₁
-        first-refused e =
-            e ∙ after-fields (laws.first-refused (d - 1) v n s i code m (parts .said) some p (binds .said) (locks .said) (exp-back s p (d - 1) (n + y) (v + x) read) e)
+      module _ (some : m ≡ 0 → ⊥) {x y : ℕ} (binds : FirstBinds code x) (locks : FirstLocks code y) where
+        module _ {r₁ : Got} (read : Part (v + x) (n + y) p r₁) where
+          part-refused : {k q : ℕ} → r₁ ≡ Refused k q → Answer (Refused k q)
+          part-refused e =
+              after-fields (laws.first-refused (d - 1) v n s i code m (parts .said) some p (binds .said) (locks .said) (exp-back s p (d - 1) (n + y) (v + x) read) e)
 
-        module _ {q : ℕ} (e₁ : r₁ ≡ Next q) where
-          after-first : {o : Got} → o ≡ second (d - 1) v n s i code q → Answer o
-          after-first e =
-              after-fields (laws.first-next (d - 1) v n s i code m (parts .said) some p (binds .said) (locks .said) (exp-back s p (d - 1) (n + y) (v + x) read) e₁ e)
+          pub first-refused : {k q : ℕ} → r₁ ≡ Refused k q → Led s i v n d (Wrong k q)
+          first-refused e = led-wrong (part-refused e)
 
-          pub one-part : m ≡ 1 → Answer (Next q)
-          one-part e = after-first (laws.second-done (d - 1) v n s i code m (parts .said) e)
+          module _ {q : ℕ} (e₁ : r₁ ≡ Next q) where
+            after-first : {o : Got} → o ≡ second (d - 1) v n s i code q → Answer o
+            after-first e =
+                after-fields (laws.first-next (d - 1) v n s i code m (parts .said) some p (binds .said) (locks .said) (exp-back s p (d - 1) (n + y) (v + x) read) e₁ e)
 
-          module _ (more : m ≡ 1 → ⊥) {w : ℕ} {r₂ : Got} (binds₂ : SecondBinds code w) (read₂ : Part (v + w) n q r₂) where
-            pub second-refused : {k p : ℕ} → r₂ ≡ Refused k p → Answer r₂
-            second-refused e =
-                e ∙ after-first (laws.second-refused (d - 1) v n s i code m (parts .said) more q (binds₂ .said) (exp-back s q (d - 1) n (v + w) read₂) e)
+            one-part : m ≡ 1 → Answer (Next q)
+            one-part e = after-first (laws.second-done (d - 1) v n s i code m (parts .said) e)
 
-            module _ {r : ℕ} (e₂ : r₂ ≡ Next r) where
-              after-second : {o : Got} → o ≡ laws.third (d - 1) v n s i code r → Answer o
-              after-second e =
-                  after-first (laws.second-next (d - 1) v n s i code m (parts .said) more q (binds₂ .said) (exp-back s q (d - 1) n (v + w) read₂) e₂ e)
+            module _ (more : m ≡ 1 → ⊥) {w : ℕ} (binds₂ : SecondBinds code w) where
+              module _ {r₂ : Got} (read₂ : Part (v + w) n q r₂) where
+                part₂-refused : {k p : ℕ} → r₂ ≡ Refused k p → Answer (Refused k p)
+                part₂-refused e =
+                    after-first (laws.second-refused (d - 1) v n s i code m (parts .said) more q (binds₂ .said) (exp-back s q (d - 1) n (v + w) read₂) e)
 
-              pub two-parts : m ≡ 2 → Answer (Next r)
-              two-parts e = after-second (laws.third-done (d - 1) v n s i code m (parts .said) e)
+                pub second-refused : {k p : ℕ} → r₂ ≡ Refused k p → Led s i v n d (Wrong k p)
+                second-refused e = led-wrong (part₂-refused e)
 
-              pub three-parts : (m ≡ 2 → ⊥) → {o : Got} → Part v n r o → Answer o
-              three-parts f read₃ = after-second (laws.third-last (d - 1) v n s i code m (parts .said) r f (exp-back s r (d - 1) n v read₃))
+                module _ {r : ℕ} (e₂ : r₂ ≡ Next r) where
+                  after-second : {o : Got} → o ≡ laws.third (d - 1) v n s i code r → Answer o
+                  after-second e =
+                      after-first (laws.second-next (d - 1) v n s i code m (parts .said) more q (binds₂ .said) (exp-back s q (d - 1) n (v + w) read₂) e₂ e)
+
+                  two-parts : m ≡ 2 → Answer (Next r)
+                  two-parts e = after-second (laws.third-done (d - 1) v n s i code m (parts .said) e)
+
+                  pub last-of-three : (m ≡ 2 → ⊥) → (v + (d - 1) ≤ 64) × (n ≤ 32) × (0 < d) → Led s i v n d (Last r v n)
+                  last-of-three f h =
+                      led-last (λ o read₃. after-second (laws.third-last (d - 1) v n s i code m (parts .said) r f (exp-back s r (d - 1) n v read₃))) h
+
+              pub last-of-two : m ≡ 2 → (v + w + (d - 1) ≤ 64) × (n ≤ 32) × (0 < d) → Led s i v n d (Last q (v + w) n)
+              last-of-two e h = led-last go h
+                where
+                  go : (r₂ : Got) → Part (v + w) n q r₂ → Answer r₂
+                  go (Next r) read₂ = two-parts read₂ refl e
+                  go (Refused k r) read₂ = part₂-refused read₂ refl
+
+        pub last-of-one : m ≡ 1 → (v + x + (d - 1) ≤ 64) × (n + y ≤ 32) × (0 < d) → Led s i v n d (Last p (v + x) (n + y))
+        last-of-one e h = led-last go h
+          where
+            go : (r₁ : Got) → Part (v + x) (n + y) p r₁ → Answer r₁
+            go (Next q) read = one-part read refl e
+            go (Refused k q) read = part-refused read refl

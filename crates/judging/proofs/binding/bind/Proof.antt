@@ -1,5 +1,7 @@
 -- `judging::binding::bind` meets its contract.
+use native.Mathlib.Omega.{arith}
 use Rattle.judging.proofs.binding.Env.{bind-movable, here, bind-other, bind-let}
+use Rattle.judging.proofs.typing.One.{some-left}
 use borrow.Author.Needs.{needs}
 use Rattle.judging.proofs.binding.bind.Statement.{statement}
 use Rattle.judging.proofs.binding.bind.Tie as tie
@@ -11,6 +13,11 @@ shared-slice-read-code c =
 
 var-at-requires : tie.Need-var-at-requires
 var-at-requires c κs = search needs
+
+sub-slot-of : tie.Need-sub-slot-of
+sub-slot-of c =
+    let at-start = c .before .before .before .before .before .before in
+    omega (arith, some-left (at-start .pre .ready))
 
 slot-of-requires : tie.Need-slot-of-requires
 slot-of-requires c κs = search needs
@@ -52,6 +59,7 @@ bind-spec =
     (tie.spec
     shared-slice-read-code
     var-at-requires
+    sub-slot-of
     slot-of-requires
     copy-requires
     add-work

@@ -1,7 +1,7 @@
 -- `judging::first::after_first` meets its contract.
 use mathlib.Core.Path.{refl}
-use Rattle.judging.proofs.first.Kept.{facts}
-use Rattle.judging.specs.Contract.{due5, due8, due11, due14, due15}
+use Rattle.judging.proofs.first.Kept.{facts, others}
+use Rattle.judging.specs.Contract.{due5, due8, due11}
 use borrow.Author.Needs.{needs}
 use Rattle.judging.proofs.first.after_first.Statement.{statement}
 use Rattle.judging.proofs.first.after_first.Tie as tie
@@ -9,7 +9,7 @@ use Rattle.judging.proofs.first.after_first.Tie as tie
 shared-slice-read-code : tie.Need-shared-slice-read-code
 shared-slice-read-code c =
     let at-start = c .before .before .before in
-    facts (at-start .pre) .2
+    facts (at-start .pre .0) .2
 
 first-lam-requires : tie.Need-first-lam-requires
 first-lam-requires c κs = search needs
@@ -18,7 +18,7 @@ first-due-requires : tie.Need-first-due-requires
 first-due-requires c κs =
     let at-match = c .before in
     let at-start = c .before .before .before .before .before in
-    (at-start .pre, due5 (at-match .match .keys2) refl)
+    (at-start .pre .0, due5 (at-match .match .keys2) refl)
 
 first-cell-requires : tie.Need-first-cell-requires
 first-cell-requires c κs = search needs
@@ -30,7 +30,7 @@ first-due-requires-2 : tie.Need-first-due-requires-2
 first-due-requires-2 c κs =
     let at-match = c .before in
     let at-start = c .before .before .before .before .before in
-    (at-start .pre, due8 (at-match .match .keys5) refl)
+    (at-start .pre .0, due8 (at-match .match .keys5) refl)
 
 first-fork-requires : tie.Need-first-fork-requires
 first-fork-requires c κs = search needs
@@ -42,22 +42,14 @@ first-due-requires-3 : tie.Need-first-due-requires-3
 first-due-requires-3 c κs =
     let at-match = c .before in
     let at-start = c .before .before .before .before .before in
-    (at-start .pre, due11 (at-match .match .keys8) refl)
+    (at-start .pre .0, due11 (at-match .match .keys8) refl)
 
-first-due-requires-4 : tie.Need-first-due-requires-4
-first-due-requires-4 c κs =
+first-int-requires : tie.Need-first-int-requires
+first-int-requires c κs =
     let at-match = c .before in
     let at-start = c .before .before .before .before .before in
-    (at-start .pre, due14 (at-match .match .keys9) refl)
-
-first-due-requires-5 : tie.Need-first-due-requires-5
-first-due-requires-5 c κs =
-    let at-match = c .before in
-    let at-start = c .before .before .before .before .before in
-    (at-start .pre, due15 (at-match .match .keys10) refl)
-
-first-plain-requires : tie.Need-first-plain-requires
-first-plain-requires c κs = search needs
+    let other = at-match .match .rest in
+    (at-start .pre .0, others (at-start .pre .0) (at-start .pre .1) (other .0 .0 .0 .0 .0 .0 .0 .1) (other .0 .0 .0 .0 .0 .0 .1) (other .0 .0 .0 .0 .0 .1) (other .0 .0 .0 .0 .1) (other .0 .0 .0 .1) (other .0 .0 .1) (other .0 .1) (other .1))
 
 same-length : tie.Need-same-length
 same-length c = search needs
@@ -113,18 +105,6 @@ same-length-9 c = search needs
 returns-9 : tie.Need-returns-9
 returns-9 c = search needs
 
-same-length-10 : tie.Need-same-length-10
-same-length-10 c = search needs
-
-returns-10 : tie.Need-returns-10
-returns-10 c = search needs
-
-same-length-11 : tie.Need-same-length-11
-same-length-11 c = search needs
-
-returns-11 : tie.Need-returns-11
-returns-11 c = search needs
-
 pub after-first-spec : {M : Type 1} → statement M
 after-first-spec =
     tie.close
@@ -138,9 +118,7 @@ after-first-spec =
     first-fork-requires
     first-lock-requires
     first-due-requires-3
-    first-due-requires-4
-    first-due-requires-5
-    first-plain-requires
+    first-int-requires
     same-length
     returns
     same-length-2
@@ -158,8 +136,4 @@ after-first-spec =
     same-length-8
     returns-8
     same-length-9
-    returns-9
-    same-length-10
-    returns-10
-    same-length-11
-    returns-11)
+    returns-9)

@@ -1,5 +1,5 @@
 -- `judging::second::after_second` meets its contract.
-use Rattle.judging.proofs.second.Plain.{facts}
+use Rattle.judging.proofs.second.Plain.{facts, coded-15}
 use borrow.Author.Needs.{needs}
 use Rattle.judging.proofs.second.after_second.Statement.{statement}
 use Rattle.judging.proofs.second.after_second.Tie as tie
@@ -7,7 +7,7 @@ use Rattle.judging.proofs.second.after_second.Tie as tie
 shared-slice-read-code : tie.Need-shared-slice-read-code
 shared-slice-read-code c =
     let at-start = c .before .before .before in
-    facts (at-start .pre) .2
+    facts (at-start .pre .0) .2
 
 second-app-requires : tie.Need-second-app-requires
 second-app-requires c κs = search needs
@@ -22,10 +22,11 @@ second-add-requires : tie.Need-second-add-requires
 second-add-requires c κs = search needs
 
 second-cond-requires : tie.Need-second-cond-requires
-second-cond-requires c κs = search needs
-
-second-plain-requires : tie.Need-second-plain-requires
-second-plain-requires c κs = search needs
+second-cond-requires c κs =
+    let at-match = c .before in
+    let at-start = c .before .before .before .before .before in
+    let other = at-match .match .rest in
+    (at-start .pre .0, coded-15 (at-start .pre .0) (at-start .pre .1) (at-start .pre .2) (other .0 .0 .0 .1) (other .0 .0 .1) (other .0 .1) (other .1))
 
 same-length : tie.Need-same-length
 same-length c = search needs
@@ -57,12 +58,6 @@ same-length-5 c = search needs
 returns-5 : tie.Need-returns-5
 returns-5 c = search needs
 
-same-length-6 : tie.Need-same-length-6
-same-length-6 c = search needs
-
-returns-6 : tie.Need-returns-6
-returns-6 c = search needs
-
 pub after-second-spec : {M : Type 1} → statement M
 after-second-spec =
     tie.close
@@ -73,7 +68,6 @@ after-second-spec =
     second-sync-requires
     second-add-requires
     second-cond-requires
-    second-plain-requires
     same-length
     returns
     same-length-2
@@ -83,6 +77,4 @@ after-second-spec =
     same-length-4
     returns-4
     same-length-5
-    returns-5
-    same-length-6
-    returns-6)
+    returns-5)

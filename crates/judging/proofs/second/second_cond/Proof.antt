@@ -1,6 +1,6 @@
 -- `judging::second::second_cond` meets its contract.
 use native.Mathlib.Omega.{arith}
-use Rattle.judging.proofs.second.Plain.{part-movable, facts}
+use Rattle.judging.proofs.second.Plain.{facts}
 use Rattle.judging.proofs.second.Cond.{cond-stop, cond-go}
 use borrow.Author.Needs.{needs}
 use Rattle.judging.proofs.second.second_cond.Statement.{statement}
@@ -8,7 +8,7 @@ use Rattle.judging.proofs.second.second_cond.Tie as tie
 
 sub-slot-of : tie.Need-sub-slot-of
 sub-slot-of c =
-    let at-start = c .before .before in
+    let at-start = c .before .before .before in
     facts (at-start .pre .0) .0
 
 slot-of-requires : tie.Need-slot-of-requires
@@ -31,12 +31,8 @@ enum-told-2 c = search needs
 slot-of-requires-2 : tie.Need-slot-of-requires-2
 slot-of-requires-2 c κs = search needs
 
-copy-requires : tie.Need-copy-requires
-copy-requires c κs =
-    let at-slot-of2 = c in
-    let at-slot-of = c .before .before .before .before .before .before in
-    let at-start = c .before .before .before .before .before .before .before .before .before in
-    rw (at-slot-of .slot-of .ensures, at-slot-of2 .slot-of2 .ensures) (part-movable (at-start .pre .0))
+slice-write-work : tie.Need-slice-write-work
+slice-write-work c = search needs
 
 same-length : tie.Need-same-length
 same-length c = search needs
@@ -45,7 +41,7 @@ returns : tie.Need-returns
 returns c =
     let at-enum-told = c in
     let at-related = c .before .before in
-    let at-slot-of = c .before .before .before .before in
+    let at-slot-of = c .before .before .before in
     let at-start = c .before .before .before .before .before .before .before in
     cond-stop (at-start .pre .0) (rw (at-slot-of .slot-of .ensures) at (at-related .related .ensures)) (at-start .pre .1) (at-enum-told .enum-told .given .1)
 
@@ -54,13 +50,12 @@ same-length-2 c = search needs
 
 returns-2 : tie.Need-returns-2
 returns-2 c =
-    let at-copy = c .before .before in
-    let at-slot-of2 = c .before .before .before in
-    let at-enum-told2 = c .before .before .before .before .before in
-    let at-related = c .before .before .before .before .before .before .before in
-    let at-slot-of = c .before .before .before .before .before .before .before .before .before in
-    let at-start = c .before .before .before .before .before .before .before .before .before .before .before .before in
-    cond-go (at-start .pre .0) (rw (at-slot-of .slot-of .ensures) at (at-related .related .ensures)) (at-start .pre .1) _ _ (at-enum-told2 .enum-told2 .given .1) (rw (at-slot-of .slot-of .ensures, at-slot-of2 .slot-of2 .ensures) at (at-copy .copy .ensures))
+    let at-slot-of2 = c in
+    let at-enum-told2 = c .before in
+    let at-related = c .before .before .before in
+    let at-slot-of = c .before .before .before .before in
+    let at-start = c .before .before .before .before .before .before .before .before in
+    rw (at-slot-of2 .slot-of2 .ensures) (cond-go (at-start .pre .0) (rw (at-slot-of .slot-of .ensures) at (at-related .related .ensures)) (at-start .pre .1) _ (at-enum-told2 .enum-told2 .given .1))
 
 pub second-cond-spec : {M : Type 1} → statement M
 second-cond-spec =
@@ -73,7 +68,7 @@ second-cond-spec =
     enum-told
     enum-told-2
     slot-of-requires-2
-    copy-requires
+    slice-write-work
     same-length
     returns
     same-length-2
