@@ -1,6 +1,7 @@
 /*
  * Document 01's bench examples through C. Argument: a table, a line an example: the image in hex, the schedule in hex, what thread 0 answers after it and,
  * behind a colon, its first bytes; then the judge's line and the line of each step made or of the race, parted by semicolons. A dash stands for nothing.
+ * And a null pointer with length 0 for every buffer, which is an empty one.
  */
 #include <stdio.h>
 #include <stdlib.h>
@@ -75,6 +76,19 @@ static int right(char *line)
     return same;
 }
 
+/* An empty image is refused with 2 at 0, an empty lent buffer with 1, an empty schedule makes no call. */
+static int right_on_null(void)
+{
+    uint64_t steps = 1, last = 1, code = 1;
+    size_t place = 1, next = 1;
+    laverockin_run(NULL, 0, NULL, 0, &steps, &last);
+    return laverockin_judge(NULL, 0, types, sizeof types, work, sizeof work) == 2 && laverockin_judge(NULL, 0, NULL, 0, NULL, 0) == 1
+        && laverockin_raw_load(NULL, 0, NULL, 0) == 1 && laverockin_judged_load(NULL, 0, NULL, 0, NULL, 0) == 1
+        && laverockin_step(NULL, 0, 0) == 1 && laverockin_race(NULL, 0) == 1 && steps == 0 && last == 0
+        && laverockin_default_run(NULL, 0, 1, &steps) == 1 && steps == 0
+        && laverockin_next(NULL, 0, 3, &code, &place, &next) == 0 && code == 0 && place == 0 && next == 3;
+}
+
 int main(int argc, char **argv)
 {
     static char line[LINE_BYTES];
@@ -83,6 +97,7 @@ int main(int argc, char **argv)
     if (!f) return fprintf(stderr, "usage: examples TABLE\n"), 2;
     while (fgets(line, sizeof line, f)) right(line) ? agree++ : differ++;
     fclose(f);
-    printf("%u examples, %u differ\n", agree + differ, differ);
+    if (!right_on_null()) differ++, puts("differs: null pointers");
+    printf("%u examples and null pointers, %u differ\n", agree, differ);
     return differ > 0 || agree == 0;
 }

@@ -189,6 +189,13 @@ pub fn place<'a>(reader: Reader<'a>) -> usize
     reader.at
 }
 
+// What stands at the place that the reader has reached.
+pub fn here<'a>(reader: Reader<'a>) -> Item
+    ensures { λ r. ⌜ Lists (now (reader .entry .image)) (reader .entry .at) r ⌝ }
+{
+    next(reader.image, reader.at)
+}
+
 // The next item; the reader moves on past a code, and else stays where it was.
 pub fn advance<'s, 'a>(reader: &'s mut Reader<'a>) -> Item
     ensures { λ r. ⌜ Advances (now (reader .entry)) r (now (reader .exit)) ⌝ }
@@ -197,4 +204,11 @@ pub fn advance<'s, 'a>(reader: &'s mut Reader<'a>) -> Item
     let item = next(reader.image, at);
     reader.at = reached(at, item);
     item
+}
+
+// The first item of an image: a caller needs no reader of its own.
+pub fn first(image: &[u8]) -> Item
+    ensures { λ r. ⌜ Lists (now (image .entry)) 3 r ⌝ }
+{
+    here(start(image))
 }
