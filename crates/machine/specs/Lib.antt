@@ -14,7 +14,6 @@ pub mod Acting
 pub mod Altering
 -- ---- the step
 pub mod Answering
-pub mod Finished
 pub mod Behind
 pub mod Running
 pub mod Entering

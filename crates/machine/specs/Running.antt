@@ -24,7 +24,8 @@ use Rattle.plans.specs.Stepping.{step-made, step-finished, step-waits, step-stu
 use Rattle.slots.specs.Walk.{skipOf}
 use Rattle.slots.specs.Way.{placeOf}
 use Rattle.slots.specs.Put.{spliced}
-use Rattle.slots.specs.TermAt.{first, some-bytes, byte-at}
+use Rattle.slots.specs.Codes.{isValue}
+use Rattle.slots.specs.TermAt.{some-bytes, value-at}
 use Rattle.slots.specs.WayTerm.{found}
 use Rattle.slots.specs.Moves.{found-move, redex-at, redex-end, replaced}
 use Rattle.machine.specs.declared.act.Act.{Act}
@@ -37,7 +38,6 @@ use Rattle.machine.specs.Acting.{Acts}
 use Rattle.machine.specs.Altering.{Altering, Alters}
 use Rattle.machine.specs.Answering.{Answers, Running}
 use Rattle.machine.specs.Behind.{thread-restored}
-use Rattle.machine.specs.Finished.{ValueCode}
 
 value-rests : (card : Card) (S : State) {t : Term} → Value t → move card S t ≡ finished
 unfolding move
@@ -109,13 +109,10 @@ module _ {card : Card} {state : List ℕ} {i : ℕ} {s buffer stack : List ℕ} 
   pub thread-low : i < 256
   thread-low = omega (arith, here, good-sound card S (holds .state) .threads, fits .threads)
 
-  first-byte : getD s 0 0 ≡ first thread
-  first-byte = byte-at s 0 thread [] (bytes ∙ sym (append-nil (termBytes thread)))
+  value-is : {r : Bool} → r ≡ isValue (getD s 0 0) → value thread ≡ r
+  value-is v = sym (v ∙ value-at s 0 thread [] (bytes ∙ sym (append-nil (termBytes thread))))
 
-  value-is : {r : Bool} → ValueCode (getD s 0 0) r → value thread ≡ r
-  value-is v = v .does thread (sym first-byte)
-
-  pub run-finished : {r : Bool} → ValueCode (getD s 0 0) r → r ≡ true → Answers card state i state IsFinished
+  pub run-finished : {r : Bool} → r ≡ isValue (getD s 0 0) → r ≡ true → Answers card state i state IsFinished
   unfolding told thread
   run-finished v e = record
       { says = step-finished card fits state S holds i here (value-rests card S (is-value thread (value-is v ∙ e))) }
@@ -149,7 +146,7 @@ module _ {card : Card} {state : List ℕ} {i : ℕ} {s buffer stack : List ℕ} 
         replaced thread x q ends
         ∙ sym (ap (λ k. spliced s k q (termBytes x)) ep ∙ ap (λ z. spliced z (placeOf z) q (termBytes x)) bytes)
 
-    module _ {v : Bool} (vc : ValueCode (getD s 0 0) v) (nv : v ≡ false) {out : List ℕ} {r : Act} (a : Acts card s p q state (length buffer) out r) where
+    module _ {v : Bool} (vc : v ≡ isValue (getD s 0 0)) (nv : v ≡ false) {out : List ℕ} {r : Act} (a : Acts card s p q state (length buffer) out r) where
       unfinished : value thread ≡ false
       unfinished = value-is vc ∙ nv
 

@@ -4,7 +4,6 @@ ghost use mathlib.Core.Path.{_≡_};
 ghost use Prim.Native.Nat.{max};
 ghost use Rattle.machine.specs.Acting.{cardOf};
 ghost use Rattle.machine.specs.Answering.{Running, Held, Scratch, Answers};
-ghost use Rattle.machine.specs.Finished.{ValueCode};
 use crate::act::Act;
 use crate::act::Card;
 use crate::change::change;
@@ -12,6 +11,7 @@ use crate::change::set_thread;
 use crate::dispatch::act;
 use plans::store::byte_at;
 use plans::store::two_at;
+use slots::codes::value;
 use slots::put::fill;
 use slots::walk::skip;
 use slots::way::place;
@@ -27,28 +27,6 @@ pub enum Step {
     IsStuck,
     TooMany,
     TooLong,
-}
-
-// Whether a term that begins with c is a value: 01, 02, 04, 10, 11.
-fn is_value(c: u8) -> bool
-    ensures { λ r. ⌜ ValueCode c r ⌝ }
-{
-    if c == 1 {
-        return true;
-    }
-    if c == 2 {
-        return true;
-    }
-    if c == 4 {
-        return true;
-    }
-    if c == 16 {
-        return true;
-    }
-    if c == 17 {
-        return true;
-    }
-    false
 }
 
 fn most(a: usize, b: usize) -> usize
@@ -69,7 +47,7 @@ fn run_thread(
     requires { ⌜ Running (cardOf card) (now state) i (now s) (now out) (now stack) ⌝ }
     ensures { λ r. ⌜ Answers (cardOf card) (now (state .entry)) i (now (state .exit)) r ⌝ }
 {
-    if is_value(s[0]) {
+    if value(s[0]) {
         return Step::IsFinished;
     }
     let p = place(s);

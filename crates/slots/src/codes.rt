@@ -85,7 +85,8 @@ pub(crate) fn goes_second(c: u8) -> bool
     (table >> c) % 2 == 1
 }
 
-pub(crate) fn value(c: u8) -> bool
+// Whether an expression with this code is a value.
+pub fn value(c: u8) -> bool
     ensures { λ r. ⌜ r ≡ isValue c ⌝ }
 {
     if 18 < c {

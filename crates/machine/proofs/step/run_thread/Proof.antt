@@ -8,20 +8,20 @@ use Rattle.machine.specs.Running.{run-outgrows, run-altering, run-made}
 use Rattle.machine.proofs.step.run_thread.Statement.{statement}
 use Rattle.machine.proofs.step.run_thread.Tie as tie
 
-shared-slice-read-is-value : tie.Need-shared-slice-read-is-value
-shared-slice-read-is-value c =
+shared-slice-read-value : tie.Need-shared-slice-read-value
+shared-slice-read-value c =
     let at-start = c .before .before .before .before .before in
     thread-some (at-start .pre)
 
-is-value-requires : tie.Need-is-value-requires
-is-value-requires c κs = search needs
+value-requires : tie.Need-value-requires
+value-requires c κs = search needs
 
 returns : tie.Need-returns
 returns c =
     let at-if1 = c in
-    let at-is-value = c .before in
+    let at-value = c .before in
     let at-start = c .before .before .before .before .before .before .before in
-    run-finished (at-start .pre) (at-is-value .is-value .ensures) (at-if1 .if1 .taken)
+    run-finished (at-start .pre) (at-value .value .ensures) (at-if1 .if1 .taken)
 
 place-requires : tie.Need-place-requires
 place-requires c κs = search needs
@@ -68,9 +68,9 @@ returns-2 c =
     let at-skip = c .before .before .before .before .before .before .before .before .before .before .before .before in
     let at-place = c .before .before .before .before .before .before .before .before .before .before .before .before .before in
     let at-if1 = c .before .before .before .before .before .before .before .before .before .before .before .before .before .before in
-    let at-is-value = c .before .before .before .before .before .before .before .before .before .before .before .before .before .before .before in
+    let at-value = c .before .before .before .before .before .before .before .before .before .before .before .before .before .before .before in
     let at-start = c .before .before .before .before .before .before .before .before .before .before .before .before .before .before .before .before .before .before .before .before .before in
-    run-outgrows (at-start .pre) (at-place .place .ensures .says) (at-skip .skip .ensures .says) (at-is-value .is-value .ensures) (at-if1 .if1 .left) (at-act .act .ensures) (at-kind .kind .given .1) (omega (arith, at-if2 .if2 .taken, at-act .act .kept .1 .1 .1 .1 .1 .0))
+    run-outgrows (at-start .pre) (at-place .place .ensures .says) (at-skip .skip .ensures .says) (at-value .value .ensures) (at-if1 .if1 .left) (at-act .act .ensures) (at-kind .kind .given .1) (omega (arith, at-if2 .if2 .taken, at-act .act .kept .1 .1 .1 .1 .1 .0))
 
 change-requires : tie.Need-change-requires
 change-requires c κs =
@@ -79,9 +79,9 @@ change-requires c κs =
     let at-skip = c .before .before .before .before .before .before .before .before .before .before .before .before .before in
     let at-place = c .before .before .before .before .before .before .before .before .before .before .before .before .before .before in
     let at-if1 = c .before .before .before .before .before .before .before .before .before .before .before .before .before .before .before in
-    let at-is-value = c .before .before .before .before .before .before .before .before .before .before .before .before .before .before .before .before in
+    let at-value = c .before .before .before .before .before .before .before .before .before .before .before .before .before .before .before .before in
     let at-start = c .before .before .before .before .before .before .before .before .before .before .before .before .before .before .before .before .before .before .before .before .before .before in
-    (at-start .pre .base .fits, run-altering (at-start .pre) (at-place .place .ensures .says) (at-skip .skip .ensures .says) (at-is-value .is-value .ensures) (at-if1 .if1 .left) (at-act .act .ensures) (at-kind .kind .given .1))
+    (at-start .pre .base .fits, run-altering (at-start .pre) (at-place .place .ensures .says) (at-skip .skip .ensures .says) (at-value .value .ensures) (at-if1 .if1 .left) (at-act .act .ensures) (at-kind .kind .given .1))
 
 most-requires : tie.Need-most-requires
 most-requires c κs = search needs
@@ -115,9 +115,9 @@ returns-3 c =
     let at-skip = c .before .before .before .before .before .before .before .before .before .before in
     let at-place = c .before .before .before .before .before .before .before .before .before .before .before in
     let at-if1 = c .before .before .before .before .before .before .before .before .before .before .before .before in
-    let at-is-value = c .before .before .before .before .before .before .before .before .before .before .before .before .before in
+    let at-value = c .before .before .before .before .before .before .before .before .before .before .before .before .before in
     let at-start = c .before .before .before .before .before .before .before .before .before .before .before .before .before .before .before .before .before .before .before in
-    run-stuck (at-start .pre) (at-place .place .ensures .says) (at-skip .skip .ensures .says) (at-is-value .is-value .ensures) (at-if1 .if1 .left) (at-act .act .ensures) (at-enum-told .enum-told .given .1)
+    run-stuck (at-start .pre) (at-place .place .ensures .says) (at-skip .skip .ensures .says) (at-value .value .ensures) (at-if1 .if1 .left) (at-act .act .ensures) (at-enum-told .enum-told .given .1)
 
 same-length-7 : tie.Need-same-length-7
 same-length-7 c = search needs
@@ -135,9 +135,9 @@ returns-4 c =
     let at-skip = c .before .before .before .before .before .before .before .before .before .before in
     let at-place = c .before .before .before .before .before .before .before .before .before .before .before in
     let at-if1 = c .before .before .before .before .before .before .before .before .before .before .before .before in
-    let at-is-value = c .before .before .before .before .before .before .before .before .before .before .before .before .before in
+    let at-value = c .before .before .before .before .before .before .before .before .before .before .before .before .before in
     let at-start = c .before .before .before .before .before .before .before .before .before .before .before .before .before .before .before .before .before .before .before in
-    run-full (at-start .pre) (at-place .place .ensures .says) (at-skip .skip .ensures .says) (at-is-value .is-value .ensures) (at-if1 .if1 .left) (at-act .act .ensures) (at-enum-told2 .enum-told2 .given .1)
+    run-full (at-start .pre) (at-place .place .ensures .says) (at-skip .skip .ensures .says) (at-value .value .ensures) (at-if1 .if1 .left) (at-act .act .ensures) (at-enum-told2 .enum-told2 .given .1)
 
 same-length-10 : tie.Need-same-length-10
 same-length-10 c = search needs
@@ -155,9 +155,9 @@ returns-5 c =
     let at-skip = c .before .before .before .before .before .before .before .before .before .before in
     let at-place = c .before .before .before .before .before .before .before .before .before .before .before in
     let at-if1 = c .before .before .before .before .before .before .before .before .before .before .before .before in
-    let at-is-value = c .before .before .before .before .before .before .before .before .before .before .before .before .before in
+    let at-value = c .before .before .before .before .before .before .before .before .before .before .before .before .before in
     let at-start = c .before .before .before .before .before .before .before .before .before .before .before .before .before .before .before .before .before .before .before in
-    run-long (at-start .pre) (at-place .place .ensures .says) (at-skip .skip .ensures .says) (at-is-value .is-value .ensures) (at-if1 .if1 .left) (at-act .act .ensures) (at-enum-told3 .enum-told3 .given .1)
+    run-long (at-start .pre) (at-place .place .ensures .says) (at-skip .skip .ensures .says) (at-value .value .ensures) (at-if1 .if1 .left) (at-act .act .ensures) (at-enum-told3 .enum-told3 .given .1)
 
 same-length-13 : tie.Need-same-length-13
 same-length-13 c = search needs
@@ -175,9 +175,9 @@ returns-6 c =
     let at-skip = c .before .before .before .before .before .before .before .before .before .before .before in
     let at-place = c .before .before .before .before .before .before .before .before .before .before .before .before in
     let at-if1 = c .before .before .before .before .before .before .before .before .before .before .before .before .before in
-    let at-is-value = c .before .before .before .before .before .before .before .before .before .before .before .before .before .before in
+    let at-value = c .before .before .before .before .before .before .before .before .before .before .before .before .before .before in
     let at-start = c .before .before .before .before .before .before .before .before .before .before .before .before .before .before .before .before .before .before .before .before in
-    run-waits (at-start .pre) (at-place .place .ensures .says) (at-skip .skip .ensures .says) (at-is-value .is-value .ensures) (at-if1 .if1 .left) (at-act .act .ensures) (at-l .l .given .1)
+    run-waits (at-start .pre) (at-place .place .ensures .says) (at-skip .skip .ensures .says) (at-value .value .ensures) (at-if1 .if1 .left) (at-act .act .ensures) (at-l .l .given .1)
 
 same-length-16 : tie.Need-same-length-16
 same-length-16 c = search needs
@@ -199,16 +199,16 @@ returns-7 c =
     let at-skip = c .before .before .before .before .before .before .before .before .before .before .before .before .before .before .before .before .before .before .before .before .before .before in
     let at-place = c .before .before .before .before .before .before .before .before .before .before .before .before .before .before .before .before .before .before .before .before .before .before .before in
     let at-if1 = c .before .before .before .before .before .before .before .before .before .before .before .before .before .before .before .before .before .before .before .before .before .before .before .before in
-    let at-is-value = c .before .before .before .before .before .before .before .before .before .before .before .before .before .before .before .before .before .before .before .before .before .before .before .before .before in
+    let at-value = c .before .before .before .before .before .before .before .before .before .before .before .before .before .before .before .before .before .before .before .before .before .before .before .before .before in
     let at-start = c .before .before .before .before .before .before .before .before .before .before .before .before .before .before .before .before .before .before .before .before .before .before .before .before .before .before .before .before .before .before .before in
-    run-made (at-start .pre) (at-place .place .ensures .says) (at-skip .skip .ensures .says) (at-is-value .is-value .ensures) (at-if1 .if1 .left) (at-act .act .ensures) (at-kind .kind .given .1) (omega (arith, at-if2 .if2 .left, at-act .act .kept .1 .1 .1 .1 .1 .0)) (at-change .change .kept .0) (at-change .change .ensures) (at-most .most .ensures) (at-set-thread .set-thread .ensures)
+    run-made (at-start .pre) (at-place .place .ensures .says) (at-skip .skip .ensures .says) (at-value .value .ensures) (at-if1 .if1 .left) (at-act .act .ensures) (at-kind .kind .given .1) (omega (arith, at-if2 .if2 .left, at-act .act .kept .1 .1 .1 .1 .1 .0)) (at-change .change .kept .0) (at-change .change .ensures) (at-most .most .ensures) (at-set-thread .set-thread .ensures)
 
 pub run-thread-spec : {M : Type 1} → statement M
 run-thread-spec =
     tie.close
     (tie.spec
-    shared-slice-read-is-value
-    is-value-requires
+    shared-slice-read-value
+    value-requires
     returns
     place-requires
     skip-requires
