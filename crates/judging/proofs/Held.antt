@@ -6,7 +6,8 @@ use native.Mathlib.Omega.{arith}
 use lib.ListN.{length, getD, set, length-set}
 use lib.Seq.{getD-set-same, getD-set-other}
 use Rattle.paper.specs.Types.{Ty, unit, int, lock, ref, fun, tySize}
-use Rattle.judging.specs.Holds.{Holds, Byte, Four, Kept, put}
+use Rattle.types.specs.Holds.{Holds, Byte, Four}
+use Rattle.judging.specs.Holds.{Kept, put}
 
 -- a buffer that holds a type has a byte there
 pub held : (x : List ℕ) (i : ℕ) (t : Ty) → Holds x i t → i < length x
@@ -45,14 +46,6 @@ module _ (P : Ty → Type 0) (x : List ℕ) (i : ℕ) where
   by-leaf (lock k) h e4 e5 e6 f g = absurd (e4 (h .0 .1))
   by-leaf (ref k t) h e4 e5 e6 f g = absurd (e5 (h .0 .1))
   by-leaf (fun a m b) h e4 e5 e6 f g = absurd (e6 (h .0 .1))
-
-  -- any type, by what its code says
-  pub by-code : (t : Ty) → Holds x i t → (getD x i 0 ≡ 32 → P unit) → (getD x i 0 ≡ 33 → P int) → ((k : ℕ) → getD x i 0 ≡ 34 → P (lock k)) → ((k : ℕ) (t : Ty) → getD x i 0 ≡ 35 → P (ref k t)) → ((a : Ty) (m : ℕ) (b : Ty) → getD x i 0 ≡ 36 → P (fun a m b)) → P t
-  by-code unit h a b c d e = a (h .1)
-  by-code int h a b c d e = b (h .1)
-  by-code (lock k) h a b c d e = c k (h .0 .1)
-  by-code (ref k t) h a b c d e = d k t (h .0 .1)
-  by-code (fun a₁ m b₁) h a b c d e = e a₁ m b₁ (h .0 .1)
 
 -- a type that a buffer holds is within it
 pub holds-end : (s : List ℕ) (i : ℕ) (t : Ty) → Holds s i t → i + tySize t ≤ length s

@@ -19,7 +19,7 @@ use Rattle.reading.specs.Placed.{Exp, placeOf}
 use Rattle.reading.specs.First.{Code, ended, other, isUnit, isNum, isVar, isLam, isApp, isCell, isRead, isWrite, isFork, isLock, isSync, isLet, isSeq, isAdd, isIf, codeOf, codeAt, numAt, varAt, expAs, expAt, tooDeep}
 use Rattle.reading.specs.Walk.{fields, parts, binds1, locks1, binds2}
 use Rattle.reading.proofs.first.Laws.{by-code}
-use Rattle.judging.specs.Holds.{Byte, Four}
+use Rattle.types.specs.Holds.{Byte, Four}
 use Rattle.judging.proofs.Stated.{Stated, stated-got, name-got, set-got}
 use Rattle.judging.proofs.Inversion.{never, then-got}
 use Rattle.judging.proofs.Cases.{codeNum}

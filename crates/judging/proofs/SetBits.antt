@@ -8,6 +8,7 @@ use lib.Bits.{bitAnd, bitOr, bitXor, differ, and-step, or-step, xor-step}
 use lib.Dec.{eqb}
 use borrow.Author.Tests.{eq-eqb, ne-eqb}
 use Rattle.paper.specs.Sets.{Set, has, bits, union, less, within}
+use Rattle.types.proofs.subtype.SetBits.{sub-bits}
 
 or-bits : (n a b : ℕ) → a < 2 ^ n → b < 2 ^ n → bits max n a b ≡ bitOr a b
 unfolding bits
@@ -17,23 +18,6 @@ or-bits (suc n) a b h k = ap (λ z. z * 2 + max (a % 2) (b % 2)) (or-bits n (a /
 pub union-or : (a b : Set) → a < 2 ^ 32 → b < 2 ^ 32 → union a b ≡ bitOr a b
 unfolding union
 union-or a b h k = or-bits 32 a b h k
-
--- what a set has beside another and what it has in common with it is the set
-sub-bits : (n a b : ℕ) → a < 2 ^ n → bits (λ x y. x - y) n a b + bitAnd a b ≡ a
-unfolding bits
-sub-bits zero a b h = let x : a ≡ 0 = omega arith in rw x
-sub-bits (suc n) a b h =
-    let i = sub-bits n (a / 2) (b / 2) (omega arith) in
-    let j = and-step a b in
-    omega arith
-
-pub within-and : (a b : Set) → a < 2 ^ 32 → within a b ≡ eqb (bitAnd a b) a
-unfolding within less
-within-and a b h = go (bits (λ x y. x - y) 32 a b) (bitAnd a b) (sub-bits 32 a b h) (ℕ-discrete _ _)
-  where
-    go : (l m : ℕ) → l + m ≡ a → Dec (l ≡ 0) → eqb l 0 ≡ eqb m a
-    go l m e (yes z) = eq-eqb l 0 z ∙ sym (eq-eqb m a (omega arith))
-    go l m e (no z) = ne-eqb l 0 z ∙ sym (ne-eqb m a (λ q. z (omega arith)))
 
 digit : (x y : ℕ) → x < 2 → y < 2 → differ (max x y) y ≡ x - y
 digit zero zero h k = refl

@@ -11,7 +11,7 @@ use Rattle.paper.specs.Base.{word32}
 use Rattle.paper.specs.Types.{Ty, unit, int, lock, ref, fun, tySize}
 use Rattle.paper.specs.Reading.{Read, got, wrong}
 use Rattle.types.specs.Stated.{pick, nameAt, setAt, statedAt, sized, tyAt, tyAs, tooDeep, tagAt, tagOf, Tag, ended, other, isUnit, isInt, isLock, isRef, isFun}
-use Rattle.judging.specs.Holds.{Holds, Byte, Four}
+use Rattle.types.specs.Holds.{Holds, Byte, Four}
 use Rattle.judging.specs.Shift.{Within}
 use Rattle.judging.proofs.Inversion.{never, then-got}
 

@@ -3,8 +3,6 @@
 use Prim.Native.Nat.{ℕ, _+_, _-_, _*_, _^_, _<_, _≤_}
 use mathlib.Core.Path.{_≡_}
 use mathlib.Core.List.{List}
-use mathlib.Core.Bool.{Bool, true, false}
-use mathlib.Core.Logic.{_⊎_}
 use lib.ListN.{length, getD}
 use Rattle.paper.specs.Types.{Ty}
 use Rattle.paper.specs.Reading.{got}
@@ -64,14 +62,6 @@ pub record Bound (img w w′ : List ℕ) (at v n left : ℕ) : Type 0 where
   pub change : EnvChange w w′ v
   pub says : (x : Exp) (next : ℕ) (env : List Ty) (k : Ty) → expAt left v n img at ≡ got x next → Env w v n env → InSlot w (left - 1) n k → Env w′ (v + binds2 (getD img at 0)) n (env2 x k env)
 
--- a let or a then
-abbrev pub Chained : ℕ → Type 0
-Chained b = (b ≡ 12) ⊎ (b ≡ 13)
-
-pub record Chains (b : ℕ) (r : Bool) : Type 0 where
-  pub yes : r ≡ true → Chained b
-  pub no : r ≡ false → (b ≡ 12 → ⊥) × (b ≡ 13 → ⊥)
-
 -- the place of a part
 abbrev pub place1 : Parts → ℕ
 place1 none = 0
@@ -125,17 +115,9 @@ Some2 img w at n left = (v : ℕ) × (x : Exp) × Given img w at v n left x × (
 abbrev pub Some3 : List ℕ → List ℕ → ℕ → ℕ → ℕ → Type 0
 Some3 img w at n left = (v : ℕ) × (x : Exp) × Given img w at v n left x × (getD img at 0 ≡ 15) × (u : Ty) × InSlot w (left - 1) n u
 
+-- the place after the expression's own fields: its first part's, or the end of one without parts
 abbrev pub Starts : List ℕ → ℕ → ℕ → ℕ → ℕ → Type 0
 Starts img at v n p = fields (getD img at 0) v n img at ≡ Next p
-
-abbrev pub Read : List ℕ → ℕ → ℕ → ℕ → Type 0
-Read img at v n = (n ≤ 32) × (left : ℕ) × (x : Exp) × (next : ℕ) × (expAt left v n img at ≡ got x next)
-
--- the expressions with parts that are no let and no then
-pub record Walks (b : ℕ) : Type 0 where
-  pub some : 3 < b
-  pub no-let : b ≡ 12 → ⊥
-  pub no-then : b ≡ 13 → ⊥
 
 -- the codes whose first part has to be of a kind
 pub data Due : ℕ → ℕ → Type 0 where

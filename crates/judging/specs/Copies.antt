@@ -6,7 +6,8 @@ use mathlib.Core.Logic.{_⊎_}
 use lib.ListN.{length, getD}
 use Rattle.paper.specs.Types.{Ty, tySize, tyBytes}
 use Rattle.paper.specs.Calls.{laid}
-use Rattle.judging.specs.Holds.{Holds, Kept}
+use Rattle.types.specs.Holds.{Holds}
+use Rattle.judging.specs.Holds.{Kept}
 
 -- n bytes from `from` of s stand at `to` of w′, which is otherwise w
 pub record Copied (s : List ℕ) (from n : ℕ) (w w′ : List ℕ) (to : ℕ) : Type 0 where

@@ -1,5 +1,4 @@
 pub mod Holds
-pub mod Subtype
 pub mod Shift
 pub mod Copies
 pub mod Rules

@@ -8,7 +8,8 @@ use Rattle.judging.specs.declared.shift.Low.{Low}
 use Rattle.judging.specs.declared.shift.Low.the-variants.{Next, Mentions}
 use Rattle.paper.specs.Base.{word32}
 use Rattle.paper.specs.Types.{Ty, unit, int, lock, ref, fun, tySize, lower, mentions}
-use Rattle.judging.specs.Holds.{Holds, Kept, put}
+use Rattle.types.specs.Holds.{Holds}
+use Rattle.judging.specs.Holds.{Kept, put}
 
 -- every name is below n, and every set has only names below n
 abbrev pub Within : ℕ → Ty → Type 0

@@ -5,7 +5,7 @@ use mathlib.Core.Path.{_≡_}
 use mathlib.Core.List.{List, [], _∷_}
 use lib.ListN.{length, getD}
 use Rattle.paper.specs.Types.{Ty, tySize}
-use Rattle.judging.specs.Holds.{Holds, Byte}
+use Rattle.types.specs.Holds.{Holds, Byte}
 use Rattle.judging.specs.Shift.{Within, raised}
 
 abbrev pub slot : ℕ → ℕ

@@ -80,7 +80,5 @@ pub(crate) fn clear(w: &mut [u8])
     requires { ⌜ 40960 ≤ length (now w) ⌝ }
     ensures { λ _. ⌜ now (w .exit) ≡ zeroed (now (w .entry)) ⌝ }
 {
-    for i in 0..40960 {
-        w[i] = 0;
-    }
+    zeros::clear(&mut w[..40960]);
 }

@@ -5,17 +5,17 @@ use crate::numbers::number;
 use crate::numbers::only;
 use crate::shift;
 use crate::shift::Low;
-use crate::subtype;
-use crate::subtype::Cmp;
-use crate::subtype::Mode;
 use crate::work::Step;
 use crate::work::slot_of;
+use types::subtype;
+use types::subtype::Cmp;
+use types::subtype::Mode;
 ghost use mathlib.Core.Path.{_≡_};
 ghost use lib.ListN.{getD};
-ghost use Rattle.judging.specs.Contract.{First, Some1, Walks, Due};
+ghost use Rattle.judging.specs.Contract.{First, Some1, Due};
 
 // The part is of the kind due: a Function, a Ref or a Lock.
-fn first_due(
+pub(crate) fn first_due(
     img: &[u8],
     at: usize,
     part: usize,
@@ -37,7 +37,7 @@ fn first_due(
 }
 
 // The part is an Int, which is all that is kept of it.
-fn first_int(
+pub(crate) fn first_int(
     img: &[u8],
     at: usize,
     part: usize,
@@ -57,7 +57,7 @@ fn first_int(
 }
 
 // A fork starts with no lock.
-fn first_fork(
+pub(crate) fn first_fork(
     img: &[u8],
     at: usize,
     part: usize,
@@ -77,7 +77,7 @@ fn first_fork(
 }
 
 // Out from under the new lock, which neither the type nor the need may mention.
-fn first_lock(
+pub(crate) fn first_lock(
     img: &[u8],
     at: usize,
     part: usize,
@@ -104,7 +104,7 @@ fn first_lock(
 }
 
 // A read gives the content, and needs the cell's lock.
-fn first_read(
+pub(crate) fn first_read(
     img: &[u8],
     at: usize,
     part: usize,
@@ -126,7 +126,7 @@ fn first_read(
 }
 
 // A new cell's content is below the stated type.
-fn first_cell(
+pub(crate) fn first_cell(
     img: &[u8],
     at: usize,
     part: usize,
@@ -158,7 +158,7 @@ fn first_cell(
 
 // A function needs nothing itself: its body needs what the set declares. Its type is put together, in a buffer of its own, from the argument,
 // the set and the result.
-fn first_lam(
+pub(crate) fn first_lam(
     img: &[u8],
     at: usize,
     part: usize,
@@ -189,31 +189,4 @@ fn first_lam(
     copies::copy_in(work, from, rest, &mut own, size + 5);
     copies::copy_in(&own, 0, size + rest + 5, work, slot_of(left));
     Step::Go(0)
-}
-
-// By the code.
-pub(crate) fn after_first(
-    img: &[u8],
-    at: usize,
-    part: usize,
-    work: &mut [u8],
-    locks: u8,
-    left: u8,
-    need: u32,
-) -> Step
-    requires { ⌜ Some1 (now img) (now work) at locks left × Walks (getD (now img) at 0) ⌝ }
-    ensures { λ r. ⌜ First (now (img .entry)) (now (work .entry)) (now (work .exit)) at locks left part need r ⌝ }
-{
-    let code = img[at];
-    match code {
-        4 => first_lam(img, at, part, work, locks, left, need),
-        5 => first_due(img, at, part, work, locks, left, need, 36),
-        6 => first_cell(img, at, part, work, locks, left, need),
-        7 => first_read(img, at, part, work, locks, left, need),
-        8 => first_due(img, at, part, work, locks, left, need, 35),
-        9 => first_fork(img, at, part, work, locks, left, need),
-        10 => first_lock(img, at, part, work, locks, left, need),
-        11 => first_due(img, at, part, work, locks, left, need, 34),
-        _ => first_int(img, at, part, work, locks, left, need),
-    }
 }

@@ -3,18 +3,17 @@ use crate::copies;
 use crate::numbers::less;
 use crate::numbers::number;
 use crate::numbers::only;
-use crate::subtype;
-use crate::subtype::Cmp;
-use crate::subtype::Mode;
 use crate::work::Step;
 use crate::work::slot_of;
+use types::subtype;
+use types::subtype::Cmp;
+use types::subtype::Mode;
 ghost use mathlib.Core.Path.{_≡_};
 ghost use lib.ListN.{getD};
-ghost use Rattle.reading.specs.Walk.{parts};
-ghost use Rattle.judging.specs.Contract.{Second, Third, Some2, Some3, Walks};
+ghost use Rattle.judging.specs.Contract.{Second, Third, Some2, Some3};
 
 // An argument is below the function's, and the result is the function's.
-fn second_app(
+pub(crate) fn second_app(
     img: &[u8],
     at: usize,
     part: usize,
@@ -40,7 +39,7 @@ fn second_app(
 }
 
 // A written value is below the content, and the cell's lock is needed.
-fn second_write(
+pub(crate) fn second_write(
     img: &[u8],
     at: usize,
     part: usize,
@@ -65,7 +64,7 @@ fn second_write(
 }
 
 // A section gives its lock to e2, and to nothing else.
-fn second_sync(
+pub(crate) fn second_sync(
     img: &[u8],
     at: usize,
     part: usize,
@@ -85,7 +84,7 @@ fn second_sync(
 }
 
 // Both parts are Ints.
-fn second_add(
+pub(crate) fn second_add(
     img: &[u8],
     at: usize,
     part: usize,
@@ -106,7 +105,7 @@ fn second_add(
 }
 
 // The branch that is taken where the number is not 0 is below the stated type. Nothing of it is needed later: Unit is kept.
-fn second_cond(
+pub(crate) fn second_cond(
     img: &[u8],
     at: usize,
     part: usize,
@@ -125,30 +124,6 @@ fn second_cond(
             work[slot_of(left)] = 32;
             Step::Go(kept | need)
         }
-    }
-}
-
-// By the code.
-pub(crate) fn after_second(
-    img: &[u8],
-    at: usize,
-    part: usize,
-    work: &mut [u8],
-    locks: u8,
-    left: u8,
-    kept: u32,
-    need: u32,
-) -> Step
-    requires { ⌜ Some2 (now img) (now work) at locks left × Walks (getD (now img) at 0) × (parts (getD (now img) at 0) ≡ 1 → ⊥) ⌝ }
-    ensures { λ r. ⌜ Second (now (img .entry)) (now (work .entry)) (now (work .exit)) at locks left part kept need r ⌝ }
-{
-    let code = img[at];
-    match code {
-        5 => second_app(img, at, part, work, locks, left, kept, need),
-        8 => second_write(img, at, part, work, locks, left, kept, need),
-        11 => second_sync(img, at, part, work, locks, left, kept, need),
-        14 => second_add(img, at, part, work, locks, left, kept, need),
-        _ => second_cond(img, at, part, work, locks, left, kept, need),
     }
 }
 

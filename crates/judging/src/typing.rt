@@ -1,112 +1,265 @@
-// The walk: the judge calls itself on the parts of an expression from left to right, with what is left of the nesting falling at each call.
+// The typing: a function a rule, which calls the judge on the expression's parts from left to right, with what is left of the nesting falling at
+// each call. The code is looked at once, and each rule is called from one place, so that the compiler takes it into the judge. A rule makes its
+// answer anew: handed on as it is, a part's answer would be copied through memory. p1, p2 and p3 are the places of the parts; where a rule has more
+// than one, m is the need so far and n the next part's.
+use crate::binding::argument;
 use crate::binding::bind;
-use crate::binding::enter;
-use crate::binding::first_part;
-use crate::binding::leaf;
+use crate::binding::new_name;
+use crate::binding::number;
+use crate::binding::unit;
+use crate::binding::variable;
 use crate::copies;
-use crate::first::after_first;
-use crate::second::after_second;
+use crate::first::first_cell;
+use crate::first::first_due;
+use crate::first::first_fork;
+use crate::first::first_int;
+use crate::first::first_lam;
+use crate::first::first_lock;
+use crate::first::first_read;
 use crate::second::after_third;
+use crate::second::second_add;
+use crate::second::second_app;
+use crate::second::second_cond;
+use crate::second::second_sync;
+use crate::second::second_write;
 use crate::work::Answer;
 use crate::work::Step;
 use crate::work::slot_of;
+ghost use mathlib.Core.Path.{_≡_};
 ghost use lib.ListN.{getD};
-ghost use Rattle.judging.specs.Contract.{Ready, Finds, Chained, Chains, Walks};
+ghost use Rattle.judging.specs.Contract.{Ready, Finds};
 
-// A let or a then.
-fn chains(code: u8) -> bool
-    ensures { λ r. ⌜ Chains code r ⌝ }
-{
-    if code == 12 {
-        return true;
-    }
-    code == 13
-}
-
-// A let or a then: its type is the second part's.
-fn chain(img: &[u8], at: usize, work: &mut [u8], vars: u8, locks: u8, left: u8) -> Answer
-    requires { ⌜ Ready (now img) (now work) at vars locks left × Chained (getD (now img) at 0) ⌝ }
+// The body is under the argument.
+fn function(img: &[u8], at: usize, work: &mut [u8], vars: u8, locks: u8, left: u8) -> Answer
+    requires { ⌜ Ready (now img) (now work) at vars locks left × (getD (now img) at 0 ≡ 4) ⌝ }
     ensures { λ r. ⌜ Finds (now (img .entry)) (now (work .entry)) (now (work .exit)) at vars locks left r ⌝ }
 {
-    let code = img[at];
+    let p1 = argument(img, at, work, vars, locks, left);
+    match judge(img, p1, work, vars + 1, locks, left - 1) {
+        Answer::Refused(k, p) => Answer::Refused(k, p),
+        Answer::Typed(p2, need) => match first_lam(img, at, p1, work, locks, left, need) {
+            Step::Stop(k, p) => Answer::Refused(k, p),
+            Step::Go(kept) => Answer::Typed(p2, kept),
+        },
+    }
+}
+
+// The first part is a Function, whose code is 36.
+fn apply(img: &[u8], at: usize, work: &mut [u8], vars: u8, locks: u8, left: u8) -> Answer
+    requires { ⌜ Ready (now img) (now work) at vars locks left × (getD (now img) at 0 ≡ 5) ⌝ }
+    ensures { λ r. ⌜ Finds (now (img .entry)) (now (work .entry)) (now (work .exit)) at vars locks left r ⌝ }
+{
+    let p1 = at + 1;
+    match judge(img, p1, work, vars, locks, left - 1) {
+        Answer::Refused(k, p) => Answer::Refused(k, p),
+        Answer::Typed(p2, need) => match first_due(img, at, p1, work, locks, left, need, 36) {
+            Step::Stop(k, p) => Answer::Refused(k, p),
+            Step::Go(m) => match judge(img, p2, work, vars, locks, left - 1) {
+                Answer::Refused(k, p) => Answer::Refused(k, p),
+                Answer::Typed(p3, n) => match second_app(img, at, p2, work, locks, left, m, n) {
+                    Step::Stop(k, p) => Answer::Refused(k, p),
+                    Step::Go(all) => Answer::Typed(p3, all),
+                },
+            },
+        },
+    }
+}
+
+// The content stands behind the lock name and the stated type.
+fn new_cell(img: &[u8], at: usize, work: &mut [u8], vars: u8, locks: u8, left: u8) -> Answer
+    requires { ⌜ Ready (now img) (now work) at vars locks left × (getD (now img) at 0 ≡ 6) ⌝ }
+    ensures { λ r. ⌜ Finds (now (img .entry)) (now (work .entry)) (now (work .exit)) at vars locks left r ⌝ }
+{
+    let p1 = copies::skip(img, at + 2);
+    match judge(img, p1, work, vars, locks, left - 1) {
+        Answer::Refused(k, p) => Answer::Refused(k, p),
+        Answer::Typed(p2, need) => match first_cell(img, at, p1, work, locks, left, need) {
+            Step::Stop(k, p) => Answer::Refused(k, p),
+            Step::Go(kept) => Answer::Typed(p2, kept),
+        },
+    }
+}
+
+// Nothing is kept of the Ref but its content.
+fn read(img: &[u8], at: usize, work: &mut [u8], vars: u8, locks: u8, left: u8) -> Answer
+    requires { ⌜ Ready (now img) (now work) at vars locks left × (getD (now img) at 0 ≡ 7) ⌝ }
+    ensures { λ r. ⌜ Finds (now (img .entry)) (now (work .entry)) (now (work .exit)) at vars locks left r ⌝ }
+{
+    let p1 = at + 1;
+    match judge(img, p1, work, vars, locks, left - 1) {
+        Answer::Refused(k, p) => Answer::Refused(k, p),
+        Answer::Typed(p2, need) => match first_read(img, at, p1, work, locks, left, need) {
+            Step::Stop(k, p) => Answer::Refused(k, p),
+            Step::Go(kept) => Answer::Typed(p2, kept),
+        },
+    }
+}
+
+// The first part is a Ref, whose code is 35.
+fn write(img: &[u8], at: usize, work: &mut [u8], vars: u8, locks: u8, left: u8) -> Answer
+    requires { ⌜ Ready (now img) (now work) at vars locks left × (getD (now img) at 0 ≡ 8) ⌝ }
+    ensures { λ r. ⌜ Finds (now (img .entry)) (now (work .entry)) (now (work .exit)) at vars locks left r ⌝ }
+{
+    let p1 = at + 1;
+    match judge(img, p1, work, vars, locks, left - 1) {
+        Answer::Refused(k, p) => Answer::Refused(k, p),
+        Answer::Typed(p2, need) => match first_due(img, at, p1, work, locks, left, need, 35) {
+            Step::Stop(k, p) => Answer::Refused(k, p),
+            Step::Go(m) => match judge(img, p2, work, vars, locks, left - 1) {
+                Answer::Refused(k, p) => Answer::Refused(k, p),
+                Answer::Typed(p3, n) => match second_write(img, at, p2, work, locks, left, m, n) {
+                    Step::Stop(k, p) => Answer::Refused(k, p),
+                    Step::Go(all) => Answer::Typed(p3, all),
+                },
+            },
+        },
+    }
+}
+
+// The type of the part is of no use: a fork gives Unit.
+fn fork(img: &[u8], at: usize, work: &mut [u8], vars: u8, locks: u8, left: u8) -> Answer
+    requires { ⌜ Ready (now img) (now work) at vars locks left × (getD (now img) at 0 ≡ 9) ⌝ }
+    ensures { λ r. ⌜ Finds (now (img .entry)) (now (work .entry)) (now (work .exit)) at vars locks left r ⌝ }
+{
+    let p1 = at + 1;
+    match judge(img, p1, work, vars, locks, left - 1) {
+        Answer::Refused(k, p) => Answer::Refused(k, p),
+        Answer::Typed(p2, need) => match first_fork(img, at, p1, work, locks, left, need) {
+            Step::Stop(k, p) => Answer::Refused(k, p),
+            Step::Go(kept) => Answer::Typed(p2, kept),
+        },
+    }
+}
+
+// The body is under the new lock and under the variable that is it.
+fn new_lock(img: &[u8], at: usize, work: &mut [u8], vars: u8, locks: u8, left: u8) -> Answer
+    requires { ⌜ Ready (now img) (now work) at vars locks left × (getD (now img) at 0 ≡ 10) ⌝ }
+    ensures { λ r. ⌜ Finds (now (img .entry)) (now (work .entry)) (now (work .exit)) at vars locks left r ⌝ }
+{
+    new_name(img, at, work, vars, locks, left);
+    let p1 = at + 1;
+    match judge(img, p1, work, vars + 1, locks + 1, left - 1) {
+        Answer::Refused(k, p) => Answer::Refused(k, p),
+        Answer::Typed(p2, need) => match first_lock(img, at, p1, work, locks, left, need) {
+            Step::Stop(k, p) => Answer::Refused(k, p),
+            Step::Go(kept) => Answer::Typed(p2, kept),
+        },
+    }
+}
+
+// The first part is a Lock, whose code is 34.
+fn section(img: &[u8], at: usize, work: &mut [u8], vars: u8, locks: u8, left: u8) -> Answer
+    requires { ⌜ Ready (now img) (now work) at vars locks left × (getD (now img) at 0 ≡ 11) ⌝ }
+    ensures { λ r. ⌜ Finds (now (img .entry)) (now (work .entry)) (now (work .exit)) at vars locks left r ⌝ }
+{
+    let p1 = at + 1;
+    match judge(img, p1, work, vars, locks, left - 1) {
+        Answer::Refused(k, p) => Answer::Refused(k, p),
+        Answer::Typed(p2, need) => match first_due(img, at, p1, work, locks, left, need, 34) {
+            Step::Stop(k, p) => Answer::Refused(k, p),
+            Step::Go(m) => match judge(img, p2, work, vars, locks, left - 1) {
+                Answer::Refused(k, p) => Answer::Refused(k, p),
+                Answer::Typed(p3, n) => match second_sync(img, at, p2, work, locks, left, m, n) {
+                    Step::Stop(k, p) => Answer::Refused(k, p),
+                    Step::Go(all) => Answer::Typed(p3, all),
+                },
+            },
+        },
+    }
+}
+
+// The second part is under the variable that has the first one's type.
+fn let_in(img: &[u8], at: usize, work: &mut [u8], vars: u8, locks: u8, left: u8) -> Answer
+    requires { ⌜ Ready (now img) (now work) at vars locks left × (getD (now img) at 0 ≡ 12) ⌝ }
+    ensures { λ r. ⌜ Finds (now (img .entry)) (now (work .entry)) (now (work .exit)) at vars locks left r ⌝ }
+{
     match judge(img, at + 1, work, vars, locks, left - 1) {
         Answer::Refused(k, p) => Answer::Refused(k, p),
-        Answer::Typed(p2, need1) => {
+        Answer::Typed(p2, m) => {
             bind(img, at, work, vars, locks, left);
-            match judge(
-                img,
-                p2,
-                work,
-                vars + reading::first::second_binds(code),
-                locks,
-                left - 1,
-            ) {
+            match judge(img, p2, work, vars + 1, locks, left - 1) {
                 Answer::Refused(k, p) => Answer::Refused(k, p),
-                Answer::Typed(p3, need2) => {
+                Answer::Typed(p3, n) => {
                     copies::copy(work, slot_of(left - 1), slot_of(left));
-                    Answer::Typed(p3, need1 | need2)
+                    Answer::Typed(p3, m | n)
                 }
             }
         }
     }
 }
 
-// An expression with parts that is no let and no then.
-fn walk(img: &[u8], at: usize, work: &mut [u8], vars: u8, locks: u8, left: u8) -> Answer
-    requires { ⌜ Ready (now img) (now work) at vars locks left × Walks (getD (now img) at 0) ⌝ }
+// Of the first part only the need is left.
+fn then(img: &[u8], at: usize, work: &mut [u8], vars: u8, locks: u8, left: u8) -> Answer
+    requires { ⌜ Ready (now img) (now work) at vars locks left × (getD (now img) at 0 ≡ 13) ⌝ }
     ensures { λ r. ⌜ Finds (now (img .entry)) (now (work .entry)) (now (work .exit)) at vars locks left r ⌝ }
 {
-    let code = img[at];
-    let p1 = first_part(img, at, vars, locks);
-    enter(img, at, work, vars, locks, left);
-    match judge(
-        img,
-        p1,
-        work,
-        vars + reading::first::first_binds(code),
-        locks + reading::first::first_locks(code),
-        left - 1,
-    ) {
+    match judge(img, at + 1, work, vars, locks, left - 1) {
         Answer::Refused(k, p) => Answer::Refused(k, p),
-        Answer::Typed(p2, need1) => match after_first(img, at, p1, work, locks, left, need1) {
-            Step::Stop(k, p) => Answer::Refused(k, p),
-            Step::Go(kept1) => {
-                let n = reading::first::parts_of(code);
-                if n == 1 {
-                    return Answer::Typed(p2, kept1);
-                }
-                match judge(img, p2, work, vars, locks, left - 1) {
-                    Answer::Refused(k, p) => Answer::Refused(k, p),
-                    Answer::Typed(p3, need2) => {
-                        match after_second(img, at, p2, work, locks, left, kept1, need2) {
-                            Step::Stop(k, p) => Answer::Refused(k, p),
-                            Step::Go(kept2) => {
-                                if n == 2 {
-                                    return Answer::Typed(p3, kept2);
-                                }
-                                match judge(img, p3, work, vars, locks, left - 1) {
-                                    Answer::Refused(k, p) => Answer::Refused(k, p),
-                                    Answer::Typed(p4, need3) => {
-                                        match after_third(
-                                            img,
-                                            at,
-                                            p3,
-                                            work,
-                                            locks,
-                                            left,
-                                            kept2,
-                                            need3,
-                                        ) {
-                                            Step::Stop(k, p) => Answer::Refused(k, p),
-                                            Step::Go(need) => Answer::Typed(p4, need),
-                                        }
-                                    }
-                                }
-                            }
-                        }
-                    }
+        Answer::Typed(p2, m) => {
+            match judge(img, p2, work, vars, locks, left - 1) {
+                Answer::Refused(k, p) => Answer::Refused(k, p),
+                Answer::Typed(p3, n) => {
+                    copies::copy(work, slot_of(left - 1), slot_of(left));
+                    Answer::Typed(p3, m | n)
                 }
             }
+        }
+    }
+}
+
+// That the first part is an Int is told before the second is judged.
+fn add(img: &[u8], at: usize, work: &mut [u8], vars: u8, locks: u8, left: u8) -> Answer
+    requires { ⌜ Ready (now img) (now work) at vars locks left × (getD (now img) at 0 ≡ 14) ⌝ }
+    ensures { λ r. ⌜ Finds (now (img .entry)) (now (work .entry)) (now (work .exit)) at vars locks left r ⌝ }
+{
+    let p1 = at + 1;
+    match judge(img, p1, work, vars, locks, left - 1) {
+        Answer::Refused(k, p) => Answer::Refused(k, p),
+        Answer::Typed(p2, need) => match first_int(img, at, p1, work, locks, left, need) {
+            Step::Stop(k, p) => Answer::Refused(k, p),
+            Step::Go(m) => match judge(img, p2, work, vars, locks, left - 1) {
+                Answer::Refused(k, p) => Answer::Refused(k, p),
+                Answer::Typed(p3, n) => match second_add(img, at, p2, work, locks, left, m, n) {
+                    Step::Stop(k, p) => Answer::Refused(k, p),
+                    Step::Go(all) => Answer::Typed(p3, all),
+                },
+            },
+        },
+    }
+}
+
+// The number and the two branches stand behind the stated type, which both branches are held against.
+fn conditional(img: &[u8], at: usize, work: &mut [u8], vars: u8, locks: u8, left: u8) -> Answer
+    requires { ⌜ Ready (now img) (now work) at vars locks left × (getD (now img) at 0 ≡ 15) ⌝ }
+    ensures { λ r. ⌜ Finds (now (img .entry)) (now (work .entry)) (now (work .exit)) at vars locks left r ⌝ }
+{
+    let p1 = copies::skip(img, at + 1);
+    match judge(img, p1, work, vars, locks, left - 1) {
+        Answer::Refused(k, p) => Answer::Refused(k, p),
+        Answer::Typed(p2, need) => match first_int(img, at, p1, work, locks, left, need) {
+            Step::Stop(k, p) => Answer::Refused(k, p),
+            Step::Go(m) => match judge(img, p2, work, vars, locks, left - 1) {
+                Answer::Refused(k, p) => Answer::Refused(k, p),
+                Answer::Typed(p3, n) => match second_cond(img, at, p2, work, locks, left, m, n) {
+                    Step::Stop(k, p) => Answer::Refused(k, p),
+                    Step::Go(both) => match judge(img, p3, work, vars, locks, left - 1) {
+                        Answer::Refused(k, p) => Answer::Refused(k, p),
+                        Answer::Typed(p4, last) => match after_third(
+                            img,
+                            at,
+                            p3,
+                            work,
+                            locks,
+                            left,
+                            both,
+                            last,
+                        ) {
+                            Step::Stop(k, p) => Answer::Refused(k, p),
+                            Step::Go(all) => Answer::Typed(p4, all),
+                        },
+                    },
+                },
+            },
         },
     }
 }
@@ -117,11 +270,21 @@ pub(crate) fn judge(img: &[u8], at: usize, work: &mut [u8], vars: u8, locks: u8,
     ensures { λ r. ⌜ Finds (now (img .entry)) (now (work .entry)) (now (work .exit)) at vars locks left r ⌝ }
 {
     let code = img[at];
-    if code <= 3 {
-        return leaf(img, at, work, vars, locks, left);
+    match code {
+        1 => unit(img, at, work, vars, locks, left),
+        2 => number(img, at, work, vars, locks, left),
+        3 => variable(img, at, work, vars, locks, left),
+        4 => function(img, at, work, vars, locks, left),
+        5 => apply(img, at, work, vars, locks, left),
+        6 => new_cell(img, at, work, vars, locks, left),
+        7 => read(img, at, work, vars, locks, left),
+        8 => write(img, at, work, vars, locks, left),
+        9 => fork(img, at, work, vars, locks, left),
+        10 => new_lock(img, at, work, vars, locks, left),
+        11 => section(img, at, work, vars, locks, left),
+        12 => let_in(img, at, work, vars, locks, left),
+        13 => then(img, at, work, vars, locks, left),
+        14 => add(img, at, work, vars, locks, left),
+        _ => conditional(img, at, work, vars, locks, left),
     }
-    if chains(code) {
-        return chain(img, at, work, vars, locks, left);
-    }
-    walk(img, at, work, vars, locks, left)
 }

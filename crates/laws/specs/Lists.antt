@@ -6,10 +6,14 @@ use mathlib.Core.Option.{some}
 use mathlib.Core.Bool.{Bool, true}
 use Prim.Native.Nat.{ℕ, zero, suc, _<_}
 use native.Mathlib.Omega.{arith}
-use lib.ListN.{length, getElem? as get, getD, set}
+use lib.ListN.{length, getElem? as get, getD, set, take, drop}
 pub use Rattle.paper.specs.Base.{All, all-nil, all-cons}
 use Rattle.paper.specs.States.{all}
 use Rattle.laws.specs.Tests.{none-some, split}
+
+-- the list with `mid` for the part from p up to q
+unfoldable pub spliced : List ℕ → ℕ → ℕ → List ℕ → List ℕ
+spliced l p q mid = take p l ++ (mid ++ drop q l)
 
 module _ {A : Type 0} where
   pub get-below : (l : List A) (k : ℕ) → k < length l → (x : A) × (get l k ≡ some x)

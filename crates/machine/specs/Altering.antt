@@ -21,9 +21,9 @@ use Rattle.slots.specs.Put.{piece}
 use Rattle.machine.specs.Means.{Cut, part-bytes, part-cut, Changes}
 use Rattle.machine.specs.Means.{is-nothing, is-new-cell, is-set-cell, is-new-lock, is-taken, is-released, is-new-thread}
 
--- what `store` does with the slot of thread i, or with as much of it as is used, and with that of cell j
-abbrev pub ThreadPut : Card → (i used : ℕ) (bytes before after : List ℕ) → Type 0
-ThreadPut card i used = Stores (256 + card .threadBytes * i) used (38 + 2 * i)
+-- what `store` does with the slot of thread i, and with that of cell j
+abbrev pub ThreadPut : Card → ℕ → (bytes before after : List ℕ) → Type 0
+ThreadPut card i = Stores (256 + card .threadBytes * i) (card .threadBytes) (38 + 2 * i)
 
 abbrev pub CellPut : Card → ℕ → (bytes before after : List ℕ) → Type 0
 CellPut card j = Stores (cellsFrom card + card .cellBytes * j) (card .cellBytes) (70 + 2 * j)
@@ -31,7 +31,7 @@ CellPut card j = Stores (cellsFrom card + card .cellBytes * j) (card .cellBytes)
 -- a thread or a cell was stored and counted
 pub record ThreadAdded (card : Card) (i : ℕ) (bytes before after : List ℕ) : Type 0 where
   pub between : List ℕ
-  pub stored : ThreadPut card i (card .threadBytes) bytes before between
+  pub stored : ThreadPut card i bytes before between
   pub counted : Puts 3 (i + 1) between after
 
 pub record CellAdded (card : Card) (j : ℕ) (bytes before after : List ℕ) : Type 0 where
@@ -190,7 +190,7 @@ module _ {card : Card} {s before after : List ℕ} (fits : Fits card) where
           let k = part-cut x in
           let t = x .to in
           let st = thread-stored card fits (holds-long card fits before S h) i v r (omega arith)
-          (subst (λ z. ThreadPut card i (card .threadBytes) z before (w .between)) (part-bytes x) (w .stored)) in (
+          (subst (λ z. ThreadPut card i z before (w .between)) (part-bytes x) (w .stored)) in (
             w .between,
             st,
             byte-put card fits (omega (arith, st .kept, holds-long card fits before S h)) (omega arith)

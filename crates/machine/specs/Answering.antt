@@ -3,13 +3,17 @@ use mathlib.Core.Path.{_≡_, refl, sym, ap, _∙_}
 use mathlib.Core.List.{List}
 use Prim.Native.Nat.{ℕ, _<_, _≤_}
 use lib.ListN.{length, getD}
-use Rattle.paper.specs.Terms.{Term, termBytes}
+use mathlib.Core.Bool.{false}
+use Rattle.paper.specs.Terms.{Term, termBytes, value}
 use Rattle.paper.specs.States.{State, Card, Holds, Fits}
 use Rattle.paper.specs.Calls.{StepCall, stepCall}
 use Rattle.paper.specs.Cases.{StepCase, told}
 use Rattle.laws.specs.CaseLaws.{told-injective}
+use Rattle.slots.specs.WayTerm.{found}
+use Rattle.machine.specs.declared.step.Due.{Due}
 use Rattle.machine.specs.declared.step.Step.{Step}
 use Rattle.machine.specs.declared.step.Step.the-variants.{Made, BufferShort, NoState, NoSuchThread, IsFinished, WaitsFor, IsStuck, TooMany, TooLong}
+use Rattle.machine.specs.DuePart.{Parted}
 
 -- the code's answer, as the paper's case
 abbrev pub caseOf : Step → StepCase
@@ -64,7 +68,7 @@ pub record Held (card : Card) (state : List ℕ) : Type 0 where
   pub held : State
   pub holds : Holds card state held
 
--- what is lent to a step: for a copy of the thread, for the thread afterwards, and for the stack of a pass over it
+-- what is lent to a step: for a copy of the part that makes it, for what that becomes, and for the stack of a pass over it
 pub record Scratch (old out stack : List ℕ) : Type 0 where
   pub copy : length old ≡ 2048
   pub after : length out ≡ 2048
@@ -75,10 +79,12 @@ pub scratch-kept : {old out stack old′ out′ stack′ : List ℕ} → Scratch
     → length stack′ ≡ length stack → Scratch old′ out′ stack′
 scratch-kept w a b c = record { copy = a ∙ w .copy; after = b ∙ w .after; deep = c ∙ w .deep }
 
--- the buffer holds a state, and thread i of it has the bytes s
-pub record Running (card : Card) (state : List ℕ) (i : ℕ) (s out stack : List ℕ) : Type 0 where
+-- the buffer holds a state, thread i of it is no value, and the part of it that is due has the bytes s
+pub record Running (card : Card) (state : List ℕ) (i : ℕ) (d : Due) (s out stack : List ℕ) : Type 0 where
   pub base : Held card state
   pub here : i < length (base .held .threads)
-  pub bytes : s ≡ termBytes (getD (base .held .threads) i Term.unit)
-  pub room : length out ≡ card .threadBytes
+  pub going : value (getD (base .held .threads) i Term.unit) ≡ false
+  pub parted : Parted (termBytes (getD (base .held .threads) i Term.unit)) d
+  pub bytes : s ≡ termBytes (found (getD (base .held .threads) i Term.unit) .redex)
+  pub room : card .threadBytes ≤ length out
   pub deep : card .threadBytes ≤ length stack

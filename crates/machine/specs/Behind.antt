@@ -1,11 +1,12 @@
--- A thread's slot is zero behind its bytes, and stays so while the step's other changes are stored: only the bytes that the thread has or had
+-- A thread's slot keeps its bytes, and is zero behind them, while the step's other changes are stored: only the bytes that the thread has or had
 -- need be stored.
 use mathlib.Core.Path.{_≡_, sym, ap, _∙_}
 use mathlib.Core.Logic.{_⊎_, inl, inr}
 use mathlib.Core.List.{List}
 use Prim.Native.Nat.{ℕ, _+_, _*_, _<_, _≤_}
 use native.Mathlib.Omega.{arith}
-use lib.ListN.{length, getD, List·getD-eq-default}
+use lib.ListN.{length, getD, take, drop, length-take, length-drop, List·getD-eq-default}
+use lib.Seq.{ext-getD, getD-take, getD-drop}
 use Rattle.paper.specs.Base.{at}
 use Rattle.paper.specs.Terms.{Term, termBytes}
 use Rattle.paper.specs.States.{Card, State, Holds, Fits}
@@ -64,6 +65,22 @@ module _ (card : Card) (fits : Fits card) (state : List ℕ) (S : State) (holds 
       let k = sound .threads in
       let f = fits .threads in
       p .2 .other _ (omega arith) ∙ p .1 .other _ (inl (omega arith)) (omega arith) (omega arith)
+
+  pub thread-left : (c : Change) (between : List ℕ) → length between ≡ length state → Named S c → Else card S c state between
+      → take (length (termBytes (getD (S .threads) i Term.unit))) (drop (256 + card .threadBytes * i) between)
+      ≡ termBytes (getD (S .threads) i Term.unit)
+  thread-left c between long named p =
+      let slot = thread-read card fits state S holds i here in
+      let base = 256 + card .threadBytes * i in
+      let n = length (termBytes (getD (S .threads) i Term.unit)) in
+      let l = length-take n (drop base between) in
+      let m = length-take n (drop base state) in
+      let u = length-drop base between in
+      let v = length-drop base state in
+      ext-getD 0 (take n (drop base between)) (take n (drop base state)) (omega arith)
+      (λ o h. getD-take n (drop base between) o 0 (omega arith) ∙ getD-drop base between o 0 ∙ left c between named p o (omega (arith, slot .fits))
+      ∙ sym (getD-drop base state o 0) ∙ sym (getD-take n (drop base state) o 0 (omega arith)))
+      ∙ slot .bytes
 
   pub thread-restored : (c : Change) {between after : List ℕ} → length between ≡ length state → Named S c → Else card S c state between
       → (e : Term) (n : ℕ) → length (termBytes (getD (S .threads) i Term.unit)) ≤ n → length (termBytes e) ≤ n → n ≤ card .threadBytes

@@ -12,10 +12,15 @@ use Rattle.machine.specs.Means.{Cut, Cut2, Cut3, Part, part-cut}
 use Rattle.machine.specs.Parts.{part-first}
 use Rattle.machine.specs.Inner.{one-part, two-parts, three-parts, section-part}
 
--- some term stands from p up to q
-pub record Redex (s : List ℕ) (p q : ℕ) : Type 0 where
+-- the part behind that at f begins at e, or e is 0
+abbrev pub Second : List ℕ → (f e : ℕ) → Type 0
+Second s f e = (e ≡ 0 → ⊥) → e ≡ skipOf s f
+
+-- some term stands from p up to q, with its second part, if it has one, at e
+pub record Redex (s : List ℕ) (p e q : ℕ) : Type 0 where
   pub term : Term
   pub there : Part s p q term
+  pub second : Second s (p + 1) e
 
 -- the codes of one part that is looked at, and of two
 pub data One : ℕ → Type 0 where
@@ -30,7 +35,7 @@ pub data Two : ℕ → Type 0 where
   of-bind : Two 12
   of-add : Two 14
 
-module _ {s : List ℕ} {p q : ℕ} (r : Redex s p q) where
+module _ {s : List ℕ} {p e q : ℕ} (r : Redex s p e q) where
   coded : (c : ℕ) → getD s p 0 ≡ c → Coded c (r .term)
   coded c e = coded-by c (r .term) (sym (part-first (r .there)) ∙ e)
 

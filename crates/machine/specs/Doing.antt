@@ -13,7 +13,8 @@ use Rattle.paper.specs.Terms.{Term, termBytes, put, asFunction, asNumber, asLoc
 use Rattle.paper.specs.States.{State, Card}
 use Rattle.paper.specs.Answers.{forked}
 use Rattle.paper.specs.Steps.{Move, full, goes, nothing, newCell, newLock, released, newThread, orStuck, newPlace}
-use Rattle.slots.specs.Put.{piece, spliced}
+use Rattle.laws.specs.Lists.{spliced}
+use Rattle.slots.specs.Put.{piece}
 use Rattle.slots.specs.TermAt.{beyond}
 use Rattle.slots.specs.Written.{Written}
 use Rattle.machine.specs.declared.act.Act.{Act}

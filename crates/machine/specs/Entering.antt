@@ -1,28 +1,46 @@
--- From a buffer that holds a state to thread i of it: its bytes, copied aside.
-use mathlib.Core.Path.{_≡_, sym, ap, _∙_, subst}
-use mathlib.Core.List.{List}
+-- From a buffer that holds a state to thread i of it, and to the part of it that is due: its bytes, copied aside.
+use mathlib.Core.Path.{_≡_, refl, sym, ap, _∙_, subst}
+use mathlib.Core.Bool.{Bool, true, false}
+use mathlib.Core.List.{List, _++_, append-assoc}
 use Prim.Native.Nat.{ℕ, _+_, _-_, _*_, _<_, _≤_}
 use native.Mathlib.Omega.{arith}
 use lib.ListN.{length, getD, take, drop}
+use lib.Seq.{drop-drop, drop-append-le}
 use borrow.Author.Tests.{le-leb}
 use Rattle.paper.specs.Base.{at, word16}
-use Rattle.paper.specs.Terms.{Term, termBytes}
-use Rattle.paper.specs.States.{Card}
+use Rattle.paper.specs.Terms.{Term, termBytes, value}
+use Rattle.paper.specs.States.{Card, State}
+use Rattle.paper.specs.Steps.{finished, move}
 use Rattle.paper.specs.Cases.{told}
-use Rattle.plans.specs.Reads.{Filled, threads-read, thread-read}
-use Rattle.plans.specs.Stepping.{step-nobody}
-use Rattle.slots.specs.Written.{Written, roomFor}
-use Rattle.machine.specs.declared.step.Step.the-variants.{NoSuchThread}
+use Rattle.laws.specs.Values.{Value, v-unit, v-num, v-fun, v-lock, v-cell, is-value}
+use Rattle.plans.specs.Reads.{Filled, filled-from, threads-read, thread-read}
+use Rattle.plans.specs.Stepping.{step-nobody, step-finished}
+use Rattle.slots.specs.Codes.{isValue}
 use Rattle.slots.specs.Put.{piece}
-use Rattle.machine.specs.Means.{became}
+use Rattle.slots.specs.TermAt.{some-bytes, value-at}
+use Rattle.slots.specs.WayTerm.{found}
+use Rattle.slots.specs.Written.{Written, roomFor}
+use Rattle.machine.specs.declared.step.Due.{Due}
+use Rattle.machine.specs.declared.step.Step.the-variants.{NoSuchThread, IsFinished}
+use Rattle.machine.specs.Means.{Part, part-bytes, part-cut, became}
+use Rattle.machine.specs.DuePart.{Whole, Parted, due-part}
 use Rattle.machine.specs.Answering.{Held, Running, Answers}
 
--- bytes that have room stand first
-there : {res before after : List ℕ} {r : ℕ} → Written res before after r → length res ≤ length before → take (length res) after ≡ res
+value-rests : (card : Card) (S : State) {t : Term} → Value t → move card S t ≡ finished
+unfolding move
+value-rests card S v-unit = refl
+value-rests card S v-num = refl
+value-rests card S v-fun = refl
+value-rests card S v-lock = refl
+value-rests card S v-cell = refl
+
+-- bytes that have room stand first, all of them
+all-of : {res before after : List ℕ} {r n : ℕ} → Written res before after r → length before ≡ n → length res ≤ n → (r ≤ n) × (take r after ≡ res)
 unfolding roomFor
-there {res} {before} {after} {r} w h =
-    let e : r ≡ length res = w .says ∙ rw (le-leb (length res) (length before) h) in
-    ap (λ k. take k after) (sym e) ∙ became w .fits (omega arith) .0
+all-of {res} {before} {r = r} w l h =
+    let k : length res ≤ length before = omega arith in
+    let e : r ≡ length res = w .says ∙ rw (le-leb (length res) (length before) k) in
+    (omega arith, became w .fits (omega arith) .0)
 
 module _ {card : Card} {state : List ℕ} (w : Held card state) {i : ℕ} where
   pub held-nobody : at state 3 ≤ i → Answers card state i state NoSuchThread
@@ -35,11 +53,28 @@ module _ {card : Card} {state : List ℕ} (w : Held card state) {i : ℕ} where
     here : i < length (w .held .threads)
     here = omega (arith, threads-read card (w .fits) state (w .held) (w .holds))
 
-    slot : Filled (256 + card .threadBytes * i) (card .threadBytes) (38 + 2 * i) state (termBytes (getD (w .held .threads) i Term.unit))
+    abbrev thread : Term
+    thread = getD (w .held .threads) i Term.unit
+
+    slot : Filled (256 + card .threadBytes * i) (card .threadBytes) (38 + 2 * i) state (termBytes thread)
     slot = thread-read card (w .fits) state (w .held) (w .holds) i here
 
+    pub held-start : 256 + card .threadBytes * i < length state
+    held-start = omega (arith, slot .fits, slot .room, some-bytes thread)
+
+    value-is : {v : Bool} → v ≡ isValue (getD state (256 + card .threadBytes * i) 0) → value thread ≡ v
+    value-is v =
+        let a = 256 + card .threadBytes * i in
+        sym (v ∙ value-at state a thread (drop (length (termBytes thread)) (drop a state)) (filled-from slot))
+
+    pub held-finished : {v : Bool} → v ≡ isValue (getD state (256 + card .threadBytes * i) 0) → v ≡ true → Answers card state i state IsFinished
+    unfolding told
+    held-finished v e = record {
+      says = step-finished card (w .fits) state (w .held) (w .holds) i here (value-rests card (w .held) (is-value thread (value-is v ∙ e)));
+    }
+
     module _ {n : ℕ} (e : n ≡ word16 state (38 + 2 * i)) where
-      size : n ≡ length (termBytes (getD (w .held .threads) i Term.unit))
+      size : n ≡ length (termBytes thread)
       size = e ∙ slot .says
 
       pub held-few : n ≤ card .threadBytes
@@ -48,19 +83,57 @@ module _ {card : Card} {state : List ℕ} (w : Held card state) {i : ℕ} where
       pub held-inside : 256 + card .threadBytes * i + n ≤ length state
       held-inside = omega (arith, size, slot .fits, slot .room)
 
-      pub held-running : {before old out stack : List ℕ} {r : ℕ}
-          → Written (piece state (256 + card .threadBytes * i) (256 + card .threadBytes * i + n)) before old r → length before ≡ 2048
-          → length out ≡ card .threadBytes → length stack ≡ 2048 → Running card state i (take n old) out stack
-      held-running {before} {old} {r = r} x l o d =
-          let t = termBytes (getD (w .held .threads) i Term.unit) in
+      bytes : piece state (256 + card .threadBytes * i) (256 + card .threadBytes * i + n) ≡ termBytes thread
+      bytes =
           let a = 256 + card .threadBytes * i in
-          let k : a + n - a ≡ length t = omega (arith, size) in
-          let z : piece state a (a + n) ≡ t = ap (λ j. take j (drop a state)) k ∙ slot .bytes in
-          let y = subst (λ b. Written b before old r) z x in
-          record {
-            base = w;
-            here = here;
-            bytes = ap (λ j. take j old) size ∙ there y (let s = w .short in omega (arith, slot .fits));
-            room = o;
-            deep = let s = w .short in omega arith;
-          }
+          let k : a + n - a ≡ length (termBytes thread) = omega (arith, size) in
+          ap (λ j. take j (drop a state)) k ∙ slot .bytes
+
+      pub held-whole : Whole (piece state (256 + card .threadBytes * i) (256 + card .threadBytes * i + n))
+      held-whole = record { term = thread; bytes = bytes }
+
+      module _ {d : Due} (p : Parted (piece state (256 + card .threadBytes * i) (256 + card .threadBytes * i + n)) d) where
+        parted : Parted (termBytes thread) d
+        parted = subst (λ z. Parted z d) bytes p
+
+        there : Part (termBytes thread) (d .from) (d .to) (found thread .redex)
+        there = due-part thread (parted .from) (parted .to)
+
+        pub held-cut : (d .from ≤ d .to) × (d .to ≤ n)
+        held-cut = let c = part-cut there in (omega arith, omega (arith, size))
+
+        -- the part, where it stands in the buffer
+        within : Part state (256 + card .threadBytes * i + d .from) (256 + card .threadBytes * i + d .to) (found thread .redex)
+        within =
+            let a = 256 + card .threadBytes * i in
+            let rest = drop (length (termBytes thread)) (drop a state) in
+            record {
+              rest = there .rest ++ rest;
+              from = sym (drop-drop (d .from) a state) ∙ ap (drop (d .from)) (filled-from slot)
+                  ∙ drop-append-le (d .from) (termBytes thread) rest (let c = part-cut there in omega arith)
+                  ∙ ap (λ z. z ++ rest) (there .from) ∙ append-assoc (termBytes (found thread .redex)) (there .rest) rest;
+              to = omega (arith, there .to);
+            }
+
+        module _ {before old : List ℕ} {r : ℕ}
+            (x : Written (piece state (256 + card .threadBytes * i + d .from) (256 + card .threadBytes * i + d .to)) before old r)
+            (l : length before ≡ 2048) where
+          y : Written (termBytes (found thread .redex)) before old r
+          y = subst (λ b. Written b before old r) (part-bytes within) x
+
+          pub held-all : r ≤ 2048
+          held-all = all-of y l (let c = part-cut there in let t = there .to in let s = w .short in omega (arith, slot .fits)) .0
+
+          pub held-running : {v : Bool} {out stack : List ℕ} → v ≡ isValue (getD state (256 + card .threadBytes * i) 0) → v ≡ false
+              → length out ≡ 2048 → length stack ≡ 2048 → Running card state i d (take r old) out stack
+          held-running v e o k =
+              let s = w .short in
+              record {
+                base = w;
+                here = here;
+                going = value-is v ∙ e;
+                parted = parted;
+                bytes = all-of y l (let c = part-cut there in let t = there .to in omega (arith, slot .fits)) .1;
+                room = omega arith;
+                deep = omega arith;
+              }

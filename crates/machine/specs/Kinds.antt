@@ -11,7 +11,7 @@ use Rattle.paper.specs.States.{Card, State}
 use Rattle.paper.specs.Steps.{nothing, released, goes, applies, makesCell, reads, writes, forks, makesLock, takes, adds, branches}
 use Rattle.laws.specs.TermBytes.{Numbers}
 use Rattle.plans.specs.Reads.{Filled}
-use Rattle.slots.specs.Put.{spliced}
+use Rattle.laws.specs.Lists.{spliced}
 use Rattle.machine.specs.declared.act.Act.{Act}
 use Rattle.machine.specs.Means.{Part, Became, Means}
 

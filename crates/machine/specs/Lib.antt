@@ -13,6 +13,7 @@ pub mod Acting
 -- ---- what else changes
 pub mod Altering
 -- ---- the step
+pub mod DuePart
 pub mod Answering
 pub mod Behind
 pub mod Running

@@ -14,7 +14,8 @@ use Rattle.paper.specs.States.{State, Card}
 use Rattle.paper.specs.Steps.{Change, nothing, newCell, setCell, newLock, taken, released, newThread}
 use Rattle.paper.specs.Steps.{Move, waits, stuck, full, long, goes}
 use Rattle.paper.specs.Calls.{laid}
-use Rattle.slots.specs.Put.{piece, spliced}
+use Rattle.laws.specs.Lists.{spliced}
+use Rattle.slots.specs.Put.{piece}
 use Rattle.slots.specs.Written.{Written, written-fits, roomFor}
 use Rattle.slots.specs.TermAt.{some-bytes, stands}
 use Rattle.machine.specs.declared.act.Act.{Act}

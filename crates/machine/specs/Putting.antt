@@ -5,7 +5,8 @@ use Prim.Native.Nat.{ℕ, _-_, _<_, _≤_, min}
 use native.Mathlib.Omega.{arith}
 use lib.ListN.{length, take, drop}
 use Rattle.paper.specs.Terms.{Term, termBytes, put}
-use Rattle.slots.specs.Put.{spliced, putIn}
+use Rattle.laws.specs.Lists.{spliced}
+use Rattle.slots.specs.Put.{putIn}
 use Rattle.slots.specs.PutTerm.{put-whole}
 use Rattle.slots.specs.Splice.{splice-first, splice-second, splice-third}
 use Rattle.slots.specs.Written.{Written}

@@ -18,7 +18,7 @@ pub(crate) const SIXTEEN: Card = Card {
     locks: 32,
 };
 
-// What changes beside the thread. A value or a new thread is said by its place in the old thread's bytes, from and to.
+// What changes beside the thread. A value or a new thread is said by its place in the bytes of the part that makes the step, from and to.
 pub(crate) enum Also {
     Nothing,
     NewCell(usize, usize),
@@ -29,7 +29,7 @@ pub(crate) enum Also {
     NewThread(usize, usize, usize),
 }
 
-// What the part at the place of evaluation does: none of it, or a kind and a number, how many bytes the thread then has (or one more than it has
+// What the part at the place of evaluation does: none of it, or a kind and a number, how many bytes it becomes (or one more than there is
 // room for), and what else changes.
 pub(crate) enum Act {
     Stuck,

@@ -1,4 +1,5 @@
-// What a step changes in the buffer: a slot, a count, a mark. What is written comes from a copy of the thread, never from the buffer itself.
+// What a step changes in the buffer beside its thread: a slot, a count, a mark. What is written comes from a copy of the part that makes the
+// step, never from the buffer itself.
 ghost use Prim.Native.Nat.{_<_};
 ghost use Rattle.paper.specs.Base.{at};
 ghost use Rattle.paper.specs.States.{Fits};
@@ -10,14 +11,13 @@ use plans::store::byte_at;
 use plans::store::put_byte;
 use plans::store::store;
 
-// As if thread i's slot had only `used` bytes: those behind stay as they are.
-pub(crate) fn set_thread(state: &mut [u8], card: Card, i: usize, used: usize, bytes: &[u8])
+fn set_thread(state: &mut [u8], card: Card, i: usize, bytes: &[u8])
     requires { ⌜ Fits (cardOf card) ⌝ }
     requires { ⌜ i < 256 ⌝ }
-    ensures { λ _. ⌜ ThreadPut (cardOf card) i used (now (bytes .entry)) (now (state .entry)) (now (state .exit)) ⌝ }
+    ensures { λ _. ⌜ ThreadPut (cardOf card) i (now (bytes .entry)) (now (state .entry)) (now (state .exit)) ⌝ }
 {
     let size = card.thread_bytes;
-    store(state, 256 + size * i, used, 38 + 2 * i, bytes);
+    store(state, 256 + size * i, size, 38 + 2 * i, bytes);
 }
 
 fn set_cell(state: &mut [u8], card: Card, j: usize, bytes: &[u8])
@@ -36,7 +36,7 @@ fn new_thread(state: &mut [u8], card: Card, i: usize, bytes: &[u8])
     requires { ⌜ i < 255 ⌝ }
     ensures { λ _. ⌜ ThreadAdded (cardOf card) i (now (bytes .entry)) (now (state .entry)) (now (state .exit)) ⌝ }
 {
-    set_thread(state, card, i, card.thread_bytes, bytes);
+    set_thread(state, card, i, bytes);
     put_byte(state, 3, (i + 1) as u8);
 }
 
@@ -50,7 +50,7 @@ fn new_cell(state: &mut [u8], card: Card, bytes: &[u8])
     put_byte(state, 4, count + 1);
 }
 
-// What changes beside the thread whose old bytes are s.
+// What changes beside the thread, by the bytes s of the part that makes the step.
 pub(crate) fn change(state: &mut [u8], card: Card, s: &[u8], also: Also)
     requires { ⌜ Fits (cardOf card) ⌝ }
     requires { ⌜ Altering (cardOf card) (now state) (now s) also ⌝ }

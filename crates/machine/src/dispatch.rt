@@ -3,7 +3,9 @@ ghost use lib.ListN.{length};
 ghost use Rattle.paper.specs.States.{Fits};
 ghost use Rattle.machine.specs.Means.{Short};
 ghost use Rattle.machine.specs.Acting.{cardOf, Acts, Several};
-ghost use Rattle.machine.specs.Cutting.{Redex};
+ghost use mathlib.Core.Path.{_≡_};
+ghost use Rattle.slots.specs.Walk.{skipOf};
+ghost use Rattle.machine.specs.Cutting.{Second, Redex};
 ghost use lib.ListN.{getD};
 use crate::act::Act;
 use crate::act::Card;
@@ -22,17 +24,26 @@ use crate::kinds::write;
 use plans::store::byte_at;
 use slots::walk::skip;
 
+// Where the part behind that at f begins: e, if that is known.
+fn second_from(s: &[u8], f: usize, e: usize) -> usize
+    requires { ⌜ Second (now s) f e ⌝ }
+    ensures { λ r. ⌜ r ≡ skipOf (now (s .entry)) f ⌝ }
+{
+    if e == 0 { skip(s, f) } else { e }
+}
+
 // The codes of two parts or three.
 fn act_on_more(
     s: &[u8],
     p: usize,
+    e: usize,
     q: usize,
     state: &[u8],
     card: Card,
     out: &mut [u8],
     stack: &mut [u8],
 ) -> Act
-    requires { ⌜ Redex (now s) p q ⌝ }
+    requires { ⌜ Redex (now s) p e q ⌝ }
     requires { ⌜ Short (now s) (now stack) ⌝ }
     requires { ⌜ Fits (cardOf card) ⌝ }
     requires { ⌜ Several (getD (now s) p 0) ⌝ }
@@ -40,7 +51,7 @@ fn act_on_more(
 {
     let c = s[p];
     let f = p + 1;
-    let g = skip(s, f);
+    let g = second_from(s, f, e);
     if c == 5 {
         return apply(s, p, f, g, q, out, stack);
     }
@@ -66,17 +77,19 @@ fn act_on_more(
     Act::Stuck
 }
 
-// What the part from p up to q of a thread's bytes does, on the state; the thread afterwards goes to `out`.
+// What the part from p up to q of s does, on the state; s with what the part becomes goes to `out`. The part's own second part begins at e, or
+// where that is 0 it is still to be found.
 pub(crate) fn act(
     s: &[u8],
     p: usize,
+    e: usize,
     q: usize,
     state: &[u8],
     card: Card,
     out: &mut [u8],
     stack: &mut [u8],
 ) -> Act
-    requires { ⌜ Redex (now s) p q ⌝ }
+    requires { ⌜ Redex (now s) p e q ⌝ }
     requires { ⌜ Short (now s) (now stack) ⌝ }
     requires { ⌜ Fits (cardOf card) ⌝ }
     ensures { λ r. ⌜ Acts (cardOf card) (now (s .entry)) p q (now (state .entry)) (length (now (out .entry))) (now (out .exit)) r ⌝ }
@@ -108,5 +121,5 @@ pub(crate) fn act(
     if c == 18 {
         return release(s, p, p + 2, q, out);
     }
-    act_on_more(s, p, q, state, card, out, stack)
+    act_on_more(s, p, e, q, state, card, out, stack)
 }

@@ -1,15 +1,15 @@
-// One step of a thread, on a buffer that holds a state. The thread is copied aside first, so that what is put into it or goes elsewhere is read
-// from the copy. The scratch is lent, so that a run clears it once: the copy, the thread afterwards, and the stack of a pass.
-ghost use mathlib.Core.Path.{_≡_};
-ghost use Prim.Native.Nat.{max};
+// One step of a thread, on a buffer that holds a state. Only the part that makes the step is copied aside, so that what is put into it or goes
+// elsewhere is read from the copy; what it becomes is exchanged for it where it stands, and the rest of the thread is not looked at again. The
+// scratch is lent, so that a run clears it once: the copy, what the part becomes, and the stack of a pass.
 ghost use Rattle.machine.specs.Acting.{cardOf};
+ghost use Rattle.machine.specs.DuePart.{Whole, Parted};
 ghost use Rattle.machine.specs.Answering.{Running, Held, Scratch, Answers};
 use crate::act::Act;
 use crate::act::Card;
 use crate::change::change;
-use crate::change::set_thread;
 use crate::dispatch::act;
 use plans::store::byte_at;
+use plans::store::exchange;
 use plans::store::two_at;
 use slots::codes::value;
 use slots::put::fill;
@@ -29,41 +29,76 @@ pub enum Step {
     TooLong,
 }
 
-fn most(a: usize, b: usize) -> usize
-    ensures { λ r. ⌜ r ≡ max a b ⌝ }
-{
-    if a < b { b } else { a }
+// The part of a thread of `used` bytes that makes its next step: from and to, and where its own second part begins in it, if that is known;
+// else 0.
+struct Due {
+    used: usize,
+    from: usize,
+    to: usize,
+    second: usize,
 }
 
-// The step of thread i, whose bytes are s: the slot is zero behind them already.
-fn run_thread(
+fn find_due(thread: &[u8]) -> Due
+    requires { ⌜ Whole (now thread) ⌝ }
+    ensures { λ r. ⌜ Parted (now (thread .entry)) r ⌝ }
+{
+    let used = thread.len();
+    let reached = place(thread);
+    let from = reached.at;
+    let e = reached.second;
+    if e == 0 {
+        let to = skip(thread, from);
+        return Due {
+            used,
+            from,
+            to,
+            second: 0,
+        };
+    }
+    let to = skip(thread, e);
+    let second = e - from;
+    Due {
+        used,
+        from,
+        to,
+        second,
+    }
+}
+
+// The step of thread i, by the part that is due, whose bytes are s.
+fn run_part(
     state: &mut [u8],
     i: usize,
     card: Card,
+    due: Due,
     s: &[u8],
     out: &mut [u8],
     stack: &mut [u8],
 ) -> Step
-    requires { ⌜ Running (cardOf card) (now state) i (now s) (now out) (now stack) ⌝ }
+    requires { ⌜ Running (cardOf card) (now state) i due (now s) (now out) (now stack) ⌝ }
     ensures { λ r. ⌜ Answers (cardOf card) (now (state .entry)) i (now (state .exit)) r ⌝ }
 {
-    if value(s[0]) {
-        return Step::IsFinished;
-    }
-    let p = place(s);
-    let q = skip(s, p);
-    match act(s, p, q, state, card, out, stack) {
+    let size = card.thread_bytes;
+    match act(s, 0, due.second, s.len(), state, card, out, stack) {
         Act::Stuck => Step::IsStuck,
         Act::Full => Step::TooMany,
         Act::Long => Step::TooLong,
         Act::Waits(l) => Step::WaitsFor(l),
         Act::Goes(kind, number, n, also) => {
-            if out.len() < n {
+            if size - (due.used - s.len()) < n {
                 return Step::TooLong;
             }
             change(state, card, s, also);
-            let used = most(s.len(), n);
-            set_thread(state, card, i, used, &out[..n]);
+            let base = 256 + size * i;
+            exchange(
+                state,
+                base,
+                due.used,
+                38 + 2 * i,
+                due.from,
+                due.to,
+                &out[..n],
+            );
             Step::Made(kind, number)
         }
     }
@@ -87,10 +122,15 @@ pub(crate) fn step_held(
         return Step::NoSuchThread;
     }
     let k = i as usize;
-    let size = card.thread_bytes;
     let n = two_at(state, 38 + 2 * k);
-    let a = 256 + size * k;
+    let a = 256 + card.thread_bytes * k;
     let b = a + n;
-    fill(&state[a..b], old, 0);
-    run_thread(state, k, card, &old[..n], &mut out[..size], stack)
+    if value(state[a]) {
+        return Step::IsFinished;
+    }
+    let d = find_due(&state[a..b]);
+    let from = a + d.from;
+    let to = a + d.to;
+    let m = fill(&state[from..to], old, 0);
+    run_part(state, k, card, d, &old[..m], out, stack)
 }

@@ -1,18 +1,18 @@
--- A lent part filled byte by byte from its start: cleared, or a copy laid down in it. And a slot of a buffer that was filled and has come back.
+-- A lent part into which a copy is laid down byte by byte from its start. And a slot of a buffer that was filled and has come back.
 use mathlib.Core.Path.{_≡_, refl, sym, ap, _∙_}
 use mathlib.Core.Logic.{_⊎_, inl, inr, ⊎-elim}
 use mathlib.Core.List.{List, [], _++_, append-nil}
 use Prim.Native.Nat.{ℕ, _+_, _-_, _/_, _%_, _<_, _≤_}
 use native.Mathlib.Omega.{arith}
 use borrow.Author.Count.{below-more}
-use lib.ListN.{length, set, take, drop, replicate, length-set, length-append, length-drop, length-replicate, drop-of-length-le}
+use lib.ListN.{length, set, take, drop, replicate, length-set, length-append, length-drop, drop-of-length-le}
 use lib.Seq.{ext-getD, getD-set-same, getD-set-other, getD-take, getD-drop, length-take-le, take-append-seam}
 use Rattle.paper.specs.Base.{at}
 use Rattle.paper.specs.States.{pad}
 use Rattle.paper.specs.Calls.{laid}
 use Rattle.laws.specs.CallLaws.{laid-length}
 use Rattle.laws.specs.SlotBytes.{pad-length}
-use Rattle.plans.specs.Slots.{at-before, at-behind, zeros-at, pad-at}
+use Rattle.plans.specs.Slots.{at-before, at-behind, pad-at}
 use Rattle.plans.specs.Cases.{side}
 use Rattle.plans.specs.Store.{Room, Stored}
 
@@ -35,11 +35,6 @@ filling-more {f = f} {part = part} {i = i} t h v e = record {
       (getD-set-same part i v 0 (omega (arith, t .kept)) ∙ e);
   rest = λ k l. getD-set-other part i k v 0 (omega arith) ∙ t .rest k (omega arith);
 }
-
-pub cleared : {before part : List ℕ} {i : ℕ} → Filling (λ _. 0) before part i → length before ≤ i → part ≡ replicate (length before) 0
-cleared {before = before} {part = part} t h =
-    ext-getD 0 part (replicate (length before) 0) (t .kept ∙ sym (length-replicate (length before) 0)) (λ k l.
-    t .done k (omega (arith, t .kept)) ∙ sym (zeros-at (length before) k))
 
 pub copied : (x : List ℕ) {before part : List ℕ} {i : ℕ} → Filling (at x) before part i → i ≡ length x → part ≡ laid x before
 unfolding laid
@@ -79,19 +74,19 @@ module _ (s : List ℕ) (a k : ℕ) (ys : List ℕ) (fits : a + k ≤ length s) 
   front : length (take a s) ≡ a
   front = length-take-le a s (omega arith)
 
-  back-length : length (back s a k ys) ≡ length s
+  pub back-length : length (back s a k ys) ≡ length s
   back-length =
       omega (arith, length-append (take a s) (ys ++ drop k (drop a s)), length-append ys (drop k (drop a s)), length-drop k (drop a s), length-drop a s, front)
 
-  back-before : (j : ℕ) → j < a → at (back s a k ys) j ≡ at s j
+  pub back-before : (j : ℕ) → j < a → at (back s a k ys) j ≡ at s j
   back-before j h = at-before (take a s) _ j (omega (arith, front)) ∙ getD-take a s j 0 h
 
-  back-in : (o : ℕ) → o < k → at (back s a k ys) (a + o) ≡ at ys o
+  pub back-in : (o : ℕ) → o < k → at (back s a k ys) (a + o) ≡ at ys o
   back-in o h =
       let q : a + o - a ≡ o = omega arith in
       at-behind (take a s) _ a (a + o) front (omega arith) ∙ ap (at (ys ++ drop k (drop a s))) q ∙ at-before ys _ o (omega arith)
 
-  back-behind : (j : ℕ) → a + k ≤ j → at (back s a k ys) j ≡ at s j
+  pub back-behind : (j : ℕ) → a + k ≤ j → at (back s a k ys) j ≡ at s j
   back-behind j h =
       let q : a + (k + (j - a - k)) ≡ j = omega arith in
       at-behind (take a s) _ a j front (omega arith) ∙ at-behind ys _ k (j - a) same (omega arith) ∙ getD-drop k (drop a s) (j - a - k) 0

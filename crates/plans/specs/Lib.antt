@@ -11,6 +11,8 @@ pub mod Finding
 pub mod Store
 pub mod Filling
 pub mod Blank
+pub mod Exchange
+pub mod Moving
 -- ---- the state after stores
 pub mod Slotting
 pub mod Holding

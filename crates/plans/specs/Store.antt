@@ -1,6 +1,7 @@
 -- What a store does to a buffer: one byte, or a slot with its length. Only the places named change.
 use mathlib.Core.Path.{_≡_, sym, ap, _∙_}
 use mathlib.Core.Logic.{_⊎_, inl, inr, _≢_}
+use mathlib.Core.Bool.{Bool, true, false, true≢false}
 use mathlib.Core.List.{List}
 use Prim.Native.Nat.{ℕ, _+_, _-_, _/_, _%_, _<_, _≤_}
 use native.Mathlib.Omega.{arith}
@@ -71,6 +72,18 @@ pub record Room (base size place : ℕ) (x before : List ℕ) : Type 0 where
   pub bytes : length x ≤ size
   pub slot : base + size ≤ length before
   pub before-slot : place + 2 ≤ base
+
+-- the number n in the two bytes at `place`
+abbrev pub twoPut : ℕ → ℕ → List ℕ → List ℕ
+twoPut place n s = set (set s place (n / 256 % 256)) (place + 1) (n % 256)
+
+-- the answer of the test for the slot and its length
+pub record NoRoom (len base size place : ℕ) (r : Bool) : Type 0 where
+  pub none : r ≡ true → base + size ≤ len → place + 2 ≤ base → ⊥
+  pub room : r ≡ false → (base + size ≤ len) × (place + 2 ≤ base)
+
+pub no-room : {len base size place : ℕ} → (base + size ≤ len → place + 2 ≤ base → ⊥) → NoRoom len base size place true
+no-room n = record { none = λ e. n; room = λ e. absurd (true≢false e) }
 
 pub record Stores (base size place : ℕ) (x before after : List ℕ) : Type 0 where
   pub made : Room base size place x before → Stored base size place x before after

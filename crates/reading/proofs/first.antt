@@ -1,6 +1,4 @@
 pub mod Laws
 pub mod Codes
 pub mod Agree
-pub mod Fields
 pub mod Stages
-pub mod Unique

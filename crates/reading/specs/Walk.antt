@@ -1,5 +1,5 @@
--- How the code goes through an expression: its own fields, then its parts in order. Each is a table by the code, with the last line for every
--- code that has no other. `proofs/first/Laws` shows that this walk is the reading (`walked`).
+-- How an expression is gone through: its own fields, then its parts in order. Each is a table by the code, with the last line for every code that
+-- has no other. The first reading has an arm for most codes and asks here of the rest; the proofs of the typing go by the whole table.
 use Prim.Native.Nat.{ℕ, _+_}
 use mathlib.Core.List.{List}
 use lib.Dec.{ltb, eqb}
@@ -9,7 +9,7 @@ use Rattle.types.specs.declared.stated.Got.the-variants.{Next, Refused}
 use Rattle.types.specs.Told.{told, on}
 use Rattle.reading.specs.First.{numAt, varAt}
 
--- the own fields of the expression with code b at `at`, by the readers by tags; the contract of `own_fields` has them by the paper's
+-- the own fields of the expression with code b at `at`, by the readers by tags
 unfoldable pub fields : ℕ → ℕ → ℕ → List ℕ → ℕ → Got
 fields b v n s at =
     pick (eqb b 2) (told (numAt s (at + 1)))

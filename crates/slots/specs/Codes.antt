@@ -2,7 +2,7 @@
 -- parts, how many bytes of its own before them, which part stands under a binder of it, where evaluation goes, and which codes are a
 -- value's (document 01, "The program image", "The running state"). Past 12 every table has its default.
 use mathlib.Core.Path.{_≡_, refl, sym, ap, _∙_, subst}
-use mathlib.Core.Bool.{Bool, true, false, _&&_}
+use mathlib.Core.Bool.{Bool, true, false, cond, _&&_, true≢false}
 use mathlib.Core.List.{List, [], _∷_, map}
 use Prim.Native.Nat.{ℕ, zero, suc, _+_, _*_, _/_, _%_, _^_, _<_, _≤_}
 use native.Mathlib.Omega.{arith}
@@ -183,6 +183,24 @@ module _ (c : ℕ) (h : c ≤ 18) where
   pub packed-value : eqb (pack 1 valueTable / 2 ^ c % 2) 1 ≡ isValue c
   unfolding isValue
   packed-value = ap (λ n. eqb n 1) (row (λ n. pack 1 valueTable / 2 ^ n % 2) valueTable tt c (omega arith)) ∙ ones valueTable c
+
+-- ---- a code into both of whose parts evaluation goes has no bytes of its own
+
+abbrev apart : List ℕ → List ℕ → Bool
+apart [] u = true
+apart (x ∷ t) [] = true
+apart (x ∷ t) (y ∷ u) = cond (eqb x 1) (eqb y 0) true && apart t u
+
+entry-apart : (t u : List ℕ) → T (apart t u) → (c : ℕ) → getD (answers t) c false ≡ true → getD u c 0 ≡ 0
+entry-apart [] u h c e = absurd (true≢false (sym e))
+entry-apart (x ∷ t) [] h c e = refl
+entry-apart (x ∷ t) (y ∷ u) h zero e =
+    eqb→eq y 0 (subst (λ b. T (cond b (eqb y 0) true)) e (and-left (cond (eqb x 1) (eqb y 0) true) (apart t u) h))
+entry-apart (x ∷ t) (y ∷ u) h (suc c) e = entry-apart t u (and-right (cond (eqb x 1) (eqb y 0) true) (apart t u) h) c e
+
+pub two-alone : (c : ℕ) → goes2 c ≡ true → fieldOf c ≡ 0
+unfolding goes2 fieldOf
+two-alone c e = entry-apart goes2Table fieldTable tt c e
 
 -- ---- past the last code
 

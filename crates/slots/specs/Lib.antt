@@ -21,6 +21,7 @@ pub mod ClosedParse
 pub mod WayStep
 pub mod WayNext
 pub mod WayTerm
+pub mod WaySecond
 pub mod Moves
 pub mod SlotPlaced
 pub mod SlotTerm

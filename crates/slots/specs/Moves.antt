@@ -17,7 +17,7 @@ use Rattle.paper.specs.Steps.{Move, newThread, waits, full, long, goes, inPlace
 use Rattle.laws.specs.Tests.{split}
 use Rattle.slots.specs.Walk.{skipOf}
 use Rattle.slots.specs.Way.{placeOf}
-use Rattle.slots.specs.Put.{spliced}
+use Rattle.laws.specs.Lists.{spliced}
 use Rattle.slots.specs.TermAt.{beyond, skip-term}
 use Rattle.slots.specs.WayStep.{ready, Next, stays, enters}
 use Rattle.slots.specs.WayNext.{next}

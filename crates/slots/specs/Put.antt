@@ -31,10 +31,6 @@ putOf src v = choose (eqb (skipOf src 0) 0) (λ _. []) (λ _. putBytes src v 0 (
 unfoldable pub hit : List ℕ → ℕ → ℕ → Bool
 hit s i d = eqb (getD s i 0) 3 && eqb (getD s (i + 1) 0) d
 
--- the bytes with `mid` for those from p up to q
-unfoldable pub spliced : List ℕ → ℕ → ℕ → List ℕ → List ℕ
-spliced src p q mid = take p src ++ (mid ++ drop q src)
-
 -- the bytes from a up to b
 abbrev pub piece : List ℕ → ℕ → ℕ → List ℕ
 piece s a b = take (b - a) (drop a s)

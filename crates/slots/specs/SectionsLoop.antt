@@ -166,7 +166,7 @@ module _ {s m₀ m : List ℕ} {n p : ℕ} (o : Opening s m₀ m n p) (i : p < l
         let h = more-fails s m₀ m n p i (o .fuel) (o .enough) (o .grants) (o .clears) (o .counts) in
         here-fails s m₀ m n p m′ k c (h .0) (h .1) z
 
-    module _ (z : (k ≡ 0 → ⊥)) {r : ℕ} (w : Onward s p r) where
+    module _ (z : (k ≡ 0 → ⊥)) {r e : ℕ} (w : Onward s p r e) where
       pub opening-ends : r ≡ p → Claimed m₀ (opensOf s) m′ (n + (k - 1) + 1)
       opening-ends e =
           let e′ : onward s p ≡ p = sym (w .says) ∙ e in

@@ -9,7 +9,7 @@ use lib.ListN.{length, take, drop, length-drop, drop-of-length-le}
 use lib.Seq.{take-all, length-take-le}
 use borrow.Author.Tests.{leb-true, leb-false}
 use Rattle.slots.specs.Written.{Written, written-fits, written-short, stands-none, fits-stands, written-behind}
-use Rattle.slots.specs.Put.{spliced}
+use Rattle.laws.specs.Lists.{spliced}
 
 -- a place past the end is the end
 module _ (s : List ℕ) (n k : ℕ) (e : k ≡ min n (length s)) where

@@ -1,8 +1,8 @@
 -- Where evaluation goes, on bytes (document 01, "The running state": "at the one place evaluation goes"): from a code to the part that is
 -- evaluated next, and so on, to the place where the next step is made; and the cell that is read or written there. A value is told by its
 -- first byte, so nothing is remembered on the way.
-use mathlib.Core.Path.{_≡_, sym, _∙_}
-use mathlib.Core.Bool.{false, _||_}
+use mathlib.Core.Path.{_≡_, sym, ap, _∙_}
+use mathlib.Core.Bool.{false, _&&_, _||_}
 use mathlib.Core.List.{List}
 use mathlib.Core.Option.{Option, none, some}
 use Prim.Native.Nat.{ℕ, zero, suc, _+_, _<_, _≤_}
@@ -31,6 +31,16 @@ inward s p f =
 unfoldable pub onward : List ℕ → ℕ → ℕ
 onward s p = inward s p (p + fieldOf (getD s p 0) + 1)
 
+-- where the second part of the code at p begins, if its parts, from f and from e on, are values and evaluation goes into both; else 0
+unfoldable pub both : List ℕ → (p f e : ℕ) → ℕ
+both s p f e =
+    choose
+    (goes1 (getD s p 0) && ltb f (length s) && isValue (getD s f 0) && goes2 (getD s p 0) && ltb f e && ltb e (length s)
+    && isValue (getD s e 0)) (λ _. e) (λ _. 0)
+
+unfoldable pub secondAt : List ℕ → ℕ → ℕ
+secondAt s p = let f = p + fieldOf (getD s p 0) + 1 in both s p f (skipOf s f)
+
 -- the place of the next step, from p on, after at most g parts
 unfoldable pub placeFrom : ℕ → List ℕ → ℕ → ℕ
 placeFrom zero s p = p
@@ -56,13 +66,14 @@ aimOf s = aimNumber (aimAt s (placeOf s))
 
 -- ---- the contracts
 
--- `place` answers where the next step is made; the first byte of a value, which makes none
-pub record Place (s : List ℕ) (r : ℕ) : Type 0 where
+-- `place` answers where the next step is made, which for a value, which makes none, is its first byte; and where a second part begins there
+pub record Place (s : List ℕ) (r e : ℕ) : Type 0 where
   pub says : r ≡ placeOf s
   pub inside : r ≤ length s
+  pub second : e ≡ secondAt s r
 
-pub place-one : {s : List ℕ} {r r′ : ℕ} → Place s r → Place s r′ → r ≡ r′
-place-one a b = a .says ∙ sym (b .says)
+pub place-one : {s : List ℕ} {r e r′ e′ : ℕ} → Place s r e → Place s r′ e′ → (r ≡ r′) × (e ≡ e′)
+place-one {s} a b = let z = a .says ∙ sym (b .says) in (z, a .second ∙ ap (secondAt s) z ∙ sym (b .second))
 
 -- `aim` answers which cell is read or written there: 0 for none, or one more than its number
 pub record Aim (s : List ℕ) (r : ℕ) : Type 0 where

@@ -8,8 +8,8 @@ use crate::codes::is_code;
 use crate::codes::opening;
 use crate::stack::Next;
 use crate::stack::after;
-use crate::stack::clear;
 use crate::stack::pushes;
+use zeros::clear;
 
 // Whether b can stand after the code c: a variable is bound, a lock and a cell are below their counts.
 fn field_ok(nl: usize, nc: usize, c: u8, b: usize, d: usize) -> bool

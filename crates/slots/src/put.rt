@@ -4,14 +4,15 @@ ghost use mathlib.Core.List.{_++_};
 ghost use Prim.Native.Nat.{_+_, _≤_, _<_, min};
 ghost use lib.ListN.{length, take};
 ghost use Rattle.slots.specs.Written.{Written};
-ghost use Rattle.slots.specs.Put.{hit, piece, putOf, spliced, Put};
+ghost use Rattle.laws.specs.Lists.{spliced};
+ghost use Rattle.slots.specs.Put.{hit, piece, putOf, Put};
 use crate::codes::byte;
 use crate::codes::fields;
 use crate::stack::Next;
 use crate::stack::after;
-use crate::stack::clear;
 use crate::stack::ended;
 use crate::walk::skip;
+use zeros::clear;
 
 fn least(a: usize, b: usize) -> usize
     ensures { λ r. ⌜ r ≡ min a b ⌝ }

@@ -37,7 +37,7 @@ fn open_sections(s: &[u8], marks: &mut [u8]) -> usize
             return 0;
         }
         n = n + (k - 1);
-        let m = onward(s, p);
+        let m = onward(s, p).at;
         if m == p {
             return n + 1;
         }

@@ -2,7 +2,7 @@
 ghost use mathlib.Core.Path.{_≡_};
 ghost use mathlib.Core.List.{_∷_};
 ghost use Prim.Native.Nat.{_+_, _-_, _<_};
-ghost use lib.ListN.{length, replicate};
+ghost use lib.ListN.{length};
 ghost use Rattle.slots.specs.Codes.{Told};
 ghost use Rattle.slots.specs.Due.{due, ended as ended·of, after as after·of, pushOf, stackOf, Stacked, Room};
 use crate::codes::binds1;
@@ -103,15 +103,4 @@ pub(crate) fn after(stack: &mut [u8], sp: usize, d: usize, c: u8) -> Next
     }
     stack[sp] = 0;
     push(stack, sp + 1, d, 0)
-}
-
-// Zeros, for the next who borrows it.
-pub(crate) fn clear(stack: &mut [u8])
-    ensures { λ _. ⌜ now (stack .exit) ≡ replicate (length (now (stack .entry))) 0 ⌝ }
-{
-    let mut i = 0;
-    while i < stack.len() {
-        stack[i] = 0;
-        i += 1;
-    }
 }

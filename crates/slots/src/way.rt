@@ -11,51 +11,58 @@ use crate::codes::goes_second;
 use crate::codes::value;
 use crate::walk::skip;
 
+// How far evaluation goes: a place, and where the second part of the code there begins, if both its parts are values and evaluation goes into
+// both; else 0. To see that the second is a value the first was passed over, and nobody need do so again.
+pub struct Reached {
+    pub at: usize,
+    pub second: usize,
+}
+
 // The part into which evaluation goes on from the code at p; p itself where it goes no further.
-pub(crate) fn onward(s: &[u8], p: usize) -> usize
+pub(crate) fn onward(s: &[u8], p: usize) -> Reached
     requires { ⌜ p < length (now s) ⌝ }
-    ensures { λ r. ⌜ Onward (now (s .entry)) p r ⌝ }
+    ensures { λ r. ⌜ Onward (now (s .entry)) p (r .at) (r .second) ⌝ }
 {
     let c = s[p];
     if !goes_first(c) {
-        return p;
+        return Reached { at: p, second: 0 };
     }
     let f = p + fields(c) + 1;
     if s.len() <= f {
-        return p;
+        return Reached { at: p, second: 0 };
     }
     if !value(s[f]) {
-        return f;
+        return Reached { at: f, second: 0 };
     }
     if !goes_second(c) {
-        return p;
+        return Reached { at: p, second: 0 };
     }
     let e = skip(s, f);
     if e <= f {
-        return p;
+        return Reached { at: p, second: 0 };
     }
     if s.len() <= e {
-        return p;
+        return Reached { at: p, second: 0 };
     }
     if value(s[e]) {
-        return p;
+        return Reached { at: p, second: e };
     }
-    e
+    Reached { at: e, second: 0 }
 }
 
 // The place of the next step of the expression that fills s.
-pub fn place(s: &[u8]) -> usize
-    ensures { λ r. ⌜ Place (now (s .entry)) r ⌝ }
+pub fn place(s: &[u8]) -> Reached
+    ensures { λ r. ⌜ Place (now (s .entry)) (r .at) (r .second) ⌝ }
 {
     let mut p: usize = 0;
     while p < s.len() {
         let n = onward(s, p);
-        if n == p {
-            return p;
+        if n.at == p {
+            return n;
         }
-        p = n;
+        p = n.at;
     }
-    p
+    Reached { at: p, second: 0 }
 }
 
 // The cell location at p: 0 where there is none, or one more than its number.
@@ -88,5 +95,5 @@ fn aim_at(s: &[u8], p: usize) -> usize
 pub fn aim(s: &[u8]) -> usize
     ensures { λ r. ⌜ Aim (now (s .entry)) r ⌝ }
 {
-    aim_at(s, place(s))
+    aim_at(s, place(s).at)
 }

@@ -34,7 +34,7 @@ fn wide(x: u8) -> u32
 }
 
 // Four bytes, the highest first.
-fn number(s: &[u8], at: usize) -> u32
+pub(crate) fn number(s: &[u8], at: usize) -> u32
     requires { ⌜ at + 4 ≤ length (now s) ⌝ }
     ensures { λ r. ⌜ r ≡ word32 (now (s .entry)) at ⌝ }
 {

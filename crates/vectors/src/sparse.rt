@@ -4,7 +4,7 @@ use lines::cut::before;
 use lines::digits::Number;
 use lines::digits::decimal;
 use lines::digits::hex;
-use plans::store::clear;
+use zeros::clear;
 
 const PLUS: u8 = 43;
 

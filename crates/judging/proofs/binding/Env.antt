@@ -1,4 +1,4 @@
--- What the variables are before a part is judged, and what `enter` and `bind` add to them.
+-- What the variables are before a part is judged, and what a function, a new lock and a let add to them.
 use mathlib.Core.Path.{_≡_, refl, ap, sym, _∙_, subst}
 use mathlib.Core.List.{List, [], _∷_, map}
 use mathlib.Core.Logic.{inl}
@@ -9,7 +9,7 @@ use lib.ListN.{length, getD, set, length-set}
 use lib.Seq.{getD-set-same}
 use borrow.Author.Tests.{ne-eqb}
 use Rattle.paper.specs.Types.{Ty, unit, lock, tySize, raise}
-use Rattle.judging.specs.Holds.{Holds, Byte}
+use Rattle.types.specs.Holds.{Holds, Byte}
 use Rattle.judging.proofs.Held.{holds-below, byte-below, kept-wider, kept-then, kept-set}
 use Rattle.judging.specs.Copies.{Copied, Movable, Moved, Ends}
 use Rattle.judging.proofs.copies.Laws.{holds-copied}

@@ -17,7 +17,7 @@ use Rattle.judging.proofs.shift.Laws.{raised-within, raised-size}
 use Rattle.reading.specs.Placed.{Exp, placeOf}
 use Rattle.reading.specs.First.{expAt}
 use Rattle.judging.specs.Rules.{judge}
-use Rattle.judging.specs.declared.work.Answer.the-variants.{Typed, Refused}
+use Rattle.judging.specs.declared.work.Answer.the-variants.{Typed}
 use Rattle.judging.specs.Phases.{Parts, none, one, two, three, partsOf}
 use Rattle.judging.specs.Work.{slot, Var, InSlot}
 use Rattle.judging.specs.Contract.{Out, Ready, Finds, Starts}
@@ -140,6 +140,3 @@ module _ {img w : List ℕ} {at v n left p : ℕ} (R : Ready img w at v n left) 
     -- a variable is raised by the locks in scope that were not in scope where it was bound
     pub leaf-var : (from to k : ℕ) (w₁ w₂ : List ℕ) (r : ℕ) → from ≡ 320 * j → to ≡ slot left → k ≡ n - getD w (from + 256) 0 → Moved w w₁ from to → Raises w₁ w₂ to k r → Finds img w w₂ at v n left (Typed p 0)
     leaf-var from to k w₁ w₂ r e₁ e₂ e₃ c d = var-out w₁ w₂ r (rw (e₁, e₂) at c) (rw (e₃, e₁, e₂) at d)
-
-pub is-three : {img w : List ℕ} {at v n left : ℕ} → Ready img w at v n left → (getD img at 0 ≡ 1 → ⊥) → (getD img at 0 ≡ 2 → ⊥) → getD img at 0 ≤ 3 → getD img at 0 ≡ 3
-is-three {img} {w} {at} {v} {n} {left} R a c d = let z = read-whole left v n img at (R .x) (R .next) (R .reads) .some in omega arith

@@ -9,7 +9,6 @@ use lib.ListN.{length, getD}
 use lib.Dec.{ltb, leb}
 use borrow.Author.Tests.{ne-eqb, ltb-true, leb-true}
 use Rattle.paper.specs.Base.{word32}
-use Rattle.paper.specs.Types.{Ty, tySize}
 use Rattle.paper.specs.Reading.{Read, got, wrong}
 use Rattle.types.specs.Stated.{pick, nameAt, setAt, statedAt}
 use Rattle.types.specs.declared.stated.Got.{Got}
@@ -21,7 +20,7 @@ use Rattle.judging.specs.Copies.{Some, Ends}
 use Rattle.judging.specs.Contract as contract
 use Rattle.judging.proofs.Held.{holds-end}
 use Rattle.judging.proofs.Node.{read-whole}
-use Rattle.judging.proofs.Stated.{Stated, stated-got, name-got, set-got}
+use Rattle.judging.proofs.Stated.{stated-got, name-got, set-got}
 
 -- ---- an answer with a place is of something that was read
 told-next : {A : Type 0} (r : Read A) {q : ℕ} → told r ≡ Next q → (a : A) × (r ≡ got a q)
@@ -72,10 +71,10 @@ pub record Own (s : List ℕ) (at v n : ℕ) : Type 0 where
   pub start : ℕ
   pub own : fields (getD s at 0) v n s at ≡ Next start
 
-pub own-read : {s : List ℕ} {at v n : ℕ} → contract.Read s at v n → Own s at v n
-own-read {s} {at} {v} {n} r =
-    let w = read-whole (r .1) v n s at (r .2) (r .3) (r .4) in
-    record { inn = w .inn; start = w .is .start; own = w .is .own }
+pub own-read : {s w : List ℕ} {at v n left : ℕ} → contract.Ready s w at v n left → Own s at v n
+own-read {s} {w} {at} {v} {n} {left} R =
+    let W = read-whole left v n s at (R .x) (R .next) (R .reads) in
+    record { inn = W .inn; start = W .is .start; own = W .is .own }
 
 module _ {s : List ℕ} {at v n : ℕ} (o : Own s at v n) where
   abbrev q : ℕ
@@ -130,14 +129,11 @@ module _ {s : List ℕ} {at v n : ℕ} (o : Own s at v n) where
 
 -- ---- the place after an expression without parts
 module _ {img w : List ℕ} {at v n left : ℕ} (R : contract.Ready img w at v n left) where
-  own-ready : Own img at v n
-  own-ready = own-read (R .few, left, R .x, R .next, R .reads)
-
   pub after-unit : getD img at 0 ≡ 1 → contract.Starts img at v n (at + 1) × (at + 1 ≤ length img)
-  after-unit e = let o = own-ready in (starts o (start-other o (λ f. omega arith) (λ f. omega arith) (λ f. omega arith) (λ f. omega arith) (λ f. omega arith)), omega (arith, o .inn))
+  after-unit e = let o = own-read R in (starts o (start-other o (λ f. omega arith) (λ f. omega arith) (λ f. omega arith) (λ f. omega arith) (λ f. omega arith)), omega (arith, o .inn))
 
   pub after-num : getD img at 0 ≡ 2 → contract.Starts img at v n (at + 5) × (at + 5 ≤ length img)
-  after-num e = let o = own-ready in let z = start-num o e in (starts o (z .0), rw (z .0) at (z .1))
+  after-num e = let o = own-read R in let z = start-num o e in (starts o (z .0), rw (z .0) at (z .1))
 
   pub after-var : getD img at 0 ≡ 3 → contract.Starts img at v n (at + 2) × (at + 2 ≤ length img)
-  after-var e = let o = own-ready in let z = start-var o e in (starts o (z .0), rw (z .0) at (z .1))
+  after-var e = let o = own-read R in let z = start-var o e in (starts o (z .0), rw (z .0) at (z .1))

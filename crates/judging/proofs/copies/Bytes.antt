@@ -14,7 +14,7 @@ use Rattle.paper.specs.Base.{bytes4}
 use Rattle.paper.specs.Types.{Ty, unit, int, lock, ref, fun, tySize, tyBytes}
 use Rattle.paper.specs.Calls.{laid}
 use Rattle.laws.specs.TypesRead.{bytes-length}
-use Rattle.judging.specs.Holds.{Holds, Four}
+use Rattle.types.specs.Holds.{Holds, Four}
 use Rattle.judging.specs.Copies.{Copied, Ends, Givable, Given}
 use Rattle.judging.proofs.Held.{size-pos, holds-end}
 use Rattle.judging.proofs.copies.Laws.{holds-copied}

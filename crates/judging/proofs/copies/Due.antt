@@ -6,7 +6,7 @@ use native.Mathlib.Omega.{arith}
 use native.Mathlib.Numerals.{add-one, sub-one}
 use lib.ListN.{length, getD}
 use Rattle.paper.specs.Types.{Ty, ref, fun, tySize}
-use Rattle.judging.specs.Holds.{Holds}
+use Rattle.types.specs.Holds.{Holds}
 use Rattle.judging.specs.Copies.{Some, Ends}
 use Rattle.judging.proofs.Held.{held, holds-end, by-ref, by-fun}
 

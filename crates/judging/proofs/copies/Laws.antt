@@ -9,7 +9,7 @@ use native.Mathlib.Decide.{ℕ-discrete}
 use lib.ListN.{length, getD, set, length-set}
 use lib.Seq.{getD-set-same, getD-set-other}
 use Rattle.paper.specs.Types.{Ty, unit, int, lock, ref, fun, tySize}
-use Rattle.judging.specs.Holds.{Holds, Byte, Four}
+use Rattle.types.specs.Holds.{Holds, Byte, Four}
 use Rattle.judging.proofs.Held.{held, holds-end, by-lock, by-leaf, kept-wider, kept-then, kept-refl, kept-set}
 use Rattle.judging.specs.Copies.{Copied, Movable, Moved, Some, Ends}
 

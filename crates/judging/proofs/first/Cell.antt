@@ -10,15 +10,15 @@ use lib.Seq.{getD-set-same}
 use borrow.Author.Tests.{le-leb, lt-leb, ne-eqb}
 use Rattle.paper.specs.Sets.{within}
 use Rattle.paper.specs.Types.{Ty, tySize, subtype, related, below}
-use Rattle.judging.specs.Holds.{Holds, Byte}
+use Rattle.types.specs.Holds.{Holds, Byte}
 use Rattle.judging.proofs.Held.{holds-end, kept-refl, kept-wider, kept-then, kept-set, byte-below}
 use Rattle.judging.specs.Copies.{Copied, Ends}
 use Rattle.judging.proofs.copies.Laws.{holds-copied}
 use Rattle.judging.specs.Shift.{Within}
-use Rattle.judging.specs.Subtype.{Related}
-use Rattle.judging.specs.declared.subtype.Cmp.{Cmp}
-use Rattle.judging.specs.declared.subtype.Cmp.the-variants.{Next, Differ}
-use Rattle.judging.proofs.subtype.Laws.{cmp-next, cmp-differ, sub-is}
+use Rattle.types.specs.Subtype.{Related}
+use Rattle.types.specs.declared.subtype.Cmp.{Cmp}
+use Rattle.types.specs.declared.subtype.Cmp.the-variants.{Next, Differ}
+use Rattle.types.proofs.subtype.Says.{says, cmp-next, cmp-differ, sub-is}
 use Rattle.reading.specs.Placed as e
 use Rattle.reading.specs.Placed.{Exp, placeOf}
 use Rattle.reading.specs.Walk.{locks1}
@@ -57,7 +57,7 @@ module _ {img w : List ℕ} {at n left : ℕ} (O : Some1 img w at n left) (ez : 
           kept = kept-refl w (slot left) (slot left + 256);
           says = λ v x G pl t I s.
               by-it v x (λ x. place1 (partsOf x) ≡ part → StepOut w left n (after1 x t need) (Stop 12 part)) G
-              (λ k c a p g hk kn h wt pl. let q : subtype t c ≡ false = sym (sub-is t c) ∙ cmp-differ (slot (left - 1) + tySize t) (related below t c) (sym f ∙ D .says t c (I .there) h) in rw (q, pl)) pl;
+              (λ k c a p g hk kn h wt pl. let q : subtype t c ≡ false = sym (sub-is t c) ∙ cmp-differ (slot (left - 1) + tySize t) (related below t c) (sym f ∙ says D t c (I .there) h) in rw (q, pl)) pl;
         }
 
     module _ {q₀ p : ℕ} (f : r ≡ Next q₀) (d : Ends img (at + 2) p) where
@@ -69,7 +69,7 @@ module _ {img w : List ℕ} {at n left : ℕ} (O : Some1 img w at n left) (ez : 
             says = λ v x G pl t I s.
                 by-it v x (λ x. StepOut w left n (after1 x t need) (Stop 10 at)) G
                 (λ k c a p₀ g hk kn h wt.
-                let q : subtype t c ≡ true = sym (sub-is t c) ∙ cmp-next (slot (left - 1) + tySize t) q₀ (related below t c) (sym f ∙ D .says t c (I .there) h) .0 in
+                let q : subtype t c ≡ true = sym (sub-is t c) ∙ cmp-next (slot (left - 1) + tySize t) q₀ (related below t c) (sym f ∙ says D t c (I .there) h) .0 in
                 let z = d c h in
                 rw (q, lt-leb (tySize c + 2) 256 (omega arith), g));
           }
@@ -93,7 +93,7 @@ module _ {img w : List ℕ} {at n left : ℕ} (O : Some1 img w at n left) (ez : 
                 let s₁ : need < 2 ^ n = subst (λ (k : ℕ). need < 2 ^ k) (flat-locks (getD img at 0) n 6 ez (λ y. omega arith)) s in
                 by-it v x (λ x. StepOut w′ left n (after1 x t need) (Go need)) G
                 (λ k t₁ a p₀ g hk kn h wt.
-                let q : subtype t t₁ ≡ true = sym (sub-is t t₁) ∙ cmp-next (slot (left - 1) + tySize t) q₀ (related below t t₁) (sym f ∙ D .says t t₁ (I .there) h) .0 in
+                let q : subtype t t₁ ≡ true = sym (sub-is t t₁) ∙ cmp-next (slot (left - 1) + tySize t) q₀ (related below t t₁) (sym f ∙ says D t t₁ (I .there) h) .0 in
                 let z = d t₁ h in
                 rw (q, le-leb (tySize t₁ + 2) 256 (omega arith)) (
                   refl,

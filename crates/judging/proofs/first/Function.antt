@@ -12,7 +12,8 @@ use borrow.Author.Tests.{le-leb, lt-leb, eq-eqb, ne-eqb}
 use Rattle.paper.specs.Base.{word32}
 use Rattle.paper.specs.Sets.{within}
 use Rattle.paper.specs.Types.{Ty, fun, tySize}
-use Rattle.judging.specs.Holds.{Holds, Byte, Four, put}
+use Rattle.types.specs.Holds.{Holds, Byte, Four}
+use Rattle.judging.specs.Holds.{put}
 use Rattle.judging.proofs.Held.{holds-end, kept-refl, kept-wider, kept-put, four-put, byte-below, four-below, holds-below}
 use Rattle.judging.specs.Copies.{Copied, Ends}
 use Rattle.judging.proofs.copies.Laws.{holds-copied}
@@ -21,7 +22,7 @@ use Rattle.reading.specs.Placed as e
 use Rattle.reading.specs.Placed.{Exp, placeOf}
 use Rattle.reading.specs.Walk.{locks1}
 use Rattle.judging.specs.declared.work.Step.the-variants.{Go, Stop}
-use Rattle.judging.proofs.SetBits.{within-and}
+use Rattle.types.proofs.subtype.SetBits.{within-and}
 use Rattle.judging.specs.Phases.{after1}
 use Rattle.judging.specs.Work.{slot}
 use Rattle.judging.specs.Contract.{StepOut, Given, First, Some1}

@@ -1,5 +1,5 @@
 -- The steps that ask for the kind of the first part, and a fork's.
-use mathlib.Core.Path.{_≡_, refl, ap, sym, _∙_, subst}
+use mathlib.Core.Path.{_≡_, refl, ap, sym, _∙_}
 use mathlib.Core.List.{List}
 use Prim.Native.Nat.{ℕ, _+_, _-_, _<_, _≤_}
 use native.Mathlib.Omega.{arith}
@@ -10,18 +10,16 @@ use lib.ListN.{length, getD, set, length-set}
 use lib.Seq.{getD-set-same}
 use borrow.Author.Tests.{ne-eqb, eq-eqb}
 use Rattle.paper.specs.Types.{Ty, unit, int, lock, ref, fun, tySize}
-use Rattle.judging.specs.Holds.{Holds}
+use Rattle.types.specs.Holds.{Holds}
 use Rattle.judging.proofs.Held.{kept-wider, kept-refl, kept-set}
 use Rattle.judging.specs.Copies.{Movable, Moved}
-use Rattle.reading.specs.Placed as e
 use Rattle.reading.specs.Placed.{Exp, placeOf}
 use Rattle.reading.specs.Walk.{locks1}
-use Rattle.reading.proofs.first.Laws.{by-code}
 use Rattle.judging.specs.Rules.{typed, refused, test, asFun, asRef, asLock, asInt}
 use Rattle.judging.specs.declared.work.Step.the-variants.{Go, Stop}
 use Rattle.judging.specs.Phases.{partsOf, after1}
 use Rattle.judging.specs.Work.{slot}
-use Rattle.judging.specs.Contract.{StepOut, Given, First, Some1, place1, Due, due5, due8, due11, due14, due15, Walks}
+use Rattle.judging.specs.Contract.{StepOut, Given, First, Some1, place1, Due, due5, due8, due11, due14, due15}
 use Rattle.judging.proofs.Buffer.{slot-moved, slot-movable}
 use Rattle.judging.proofs.Cases.{codeNum, by-app, by-write, by-sync, by-add, by-ifNot0, by-fork}
 use Rattle.judging.proofs.Node.{read-whole}
@@ -125,33 +123,7 @@ due-flat b k (due11 p q) z = omega arith
 due-flat b k (due14 p q) z = omega arith
 due-flat b k (due15 p q) z = omega arith
 
--- the codes that are left where the others were asked for
-abbrev Others : ℕ → Type 0
-Others b = Walks b → (b ≡ 4 → ⊥) → (b ≡ 5 → ⊥) → (b ≡ 6 → ⊥) → (b ≡ 7 → ⊥) → (b ≡ 8 → ⊥) → (b ≡ 9 → ⊥) → (b ≡ 10 → ⊥) → (b ≡ 11 → ⊥) → Due b 33
-
-due-int : (b : ℕ) → (b ≡ 0 → ⊥) → b ≤ 15 → Others b
-due-int b z u =
-    by-code Others b z u
-    (λ W a4 a5 a6 a7 a8 a9 a10 a11. absurd (omega (arith, W .some)))
-    (λ W a4 a5 a6 a7 a8 a9 a10 a11. absurd (omega (arith, W .some)))
-    (λ W a4 a5 a6 a7 a8 a9 a10 a11. absurd (omega (arith, W .some)))
-    (λ W a4 a5 a6 a7 a8 a9 a10 a11. absurd (a4 refl))
-    (λ W a4 a5 a6 a7 a8 a9 a10 a11. absurd (a5 refl))
-    (λ W a4 a5 a6 a7 a8 a9 a10 a11. absurd (a6 refl))
-    (λ W a4 a5 a6 a7 a8 a9 a10 a11. absurd (a7 refl))
-    (λ W a4 a5 a6 a7 a8 a9 a10 a11. absurd (a8 refl))
-    (λ W a4 a5 a6 a7 a8 a9 a10 a11. absurd (a9 refl))
-    (λ W a4 a5 a6 a7 a8 a9 a10 a11. absurd (a10 refl))
-    (λ W a4 a5 a6 a7 a8 a9 a10 a11. absurd (a11 refl))
-    (λ W a4 a5 a6 a7 a8 a9 a10 a11. absurd (W .no-let refl))
-    (λ W a4 a5 a6 a7 a8 a9 a10 a11. absurd (W .no-then refl))
-    (λ W a4 a5 a6 a7 a8 a9 a10 a11. due14 refl refl)
-    (λ W a4 a5 a6 a7 a8 a9 a10 a11. due15 refl refl)
-
 module _ {img w : List ℕ} {at n left : ℕ} (O : Some1 img w at n left) where
-  pub others : Others (getD img at 0)
-  others = let W = read-whole left (O .0) n img at (O .1) (O .2 .next) (O .2 .reads) in due-int (getD img at 0) (W .some) (W .most)
-
   pub facts : (1 ≤ left) × (left ≤ 64) × (at < length img) × (40960 ≤ length w) × (n ≤ 32)
   facts =
       let W = read-whole left (O .0) n img at (O .1) (O .2 .next) (O .2 .reads) in

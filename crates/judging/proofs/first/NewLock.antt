@@ -10,7 +10,8 @@ use lib.ListN.{getD}
 use borrow.Author.Tests.{eqb-false}
 use Rattle.paper.specs.Sets.{has, lowered}
 use Rattle.paper.specs.Types.{Ty, unit, int, lock, ref, fun, tySize, mentions, lower}
-use Rattle.judging.specs.Holds.{Holds, Kept}
+use Rattle.types.specs.Holds.{Holds}
+use Rattle.judging.specs.Holds.{Kept}
 use Rattle.judging.proofs.Held.{kept-wider, kept-then}
 use Rattle.judging.specs.Copies.{Moved}
 use Rattle.judging.specs.Shift.{Within, Lowerable, Lowered, Lowers}

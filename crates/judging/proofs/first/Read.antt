@@ -9,7 +9,7 @@ use lib.Bits.{or-lt, bitOr}
 use lib.ListN.{length, getD}
 use Rattle.paper.specs.Sets.{single, union, within}
 use Rattle.paper.specs.Types.{Ty, unit, int, lock, ref, fun, tySize}
-use Rattle.judging.specs.Holds.{Holds}
+use Rattle.types.specs.Holds.{Holds}
 use Rattle.judging.proofs.Held.{kept-refl, by-ref}
 use Rattle.judging.specs.Copies.{Movable, Moved}
 use Rattle.judging.specs.Shift.{Within}

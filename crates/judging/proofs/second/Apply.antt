@@ -10,14 +10,14 @@ use lib.ListN.{length, getD}
 use Rattle.paper.specs.Base.{word32}
 use Rattle.paper.specs.Sets.{union, within}
 use Rattle.paper.specs.Types.{Ty, unit, int, lock, ref, fun, tySize, subtype, related, below}
-use Rattle.judging.specs.Holds.{Holds, Four}
+use Rattle.types.specs.Holds.{Holds, Four}
 use Rattle.judging.proofs.Held.{kept-refl}
 use Rattle.judging.specs.Copies.{Movable, Moved, Ends}
 use Rattle.judging.specs.Shift.{Within}
-use Rattle.judging.specs.Subtype.{Related}
-use Rattle.judging.specs.declared.subtype.Cmp.{Cmp}
-use Rattle.judging.specs.declared.subtype.Cmp.the-variants.{Next, Differ}
-use Rattle.judging.proofs.subtype.Laws.{cmp-next, cmp-differ, sub-is}
+use Rattle.types.specs.Subtype.{Related}
+use Rattle.types.specs.declared.subtype.Cmp.{Cmp}
+use Rattle.types.specs.declared.subtype.Cmp.the-variants.{Next, Differ}
+use Rattle.types.proofs.subtype.Says.{says, cmp-next, cmp-differ, sub-is}
 use Rattle.reading.specs.Placed.{Exp, placeOf}
 use Rattle.judging.specs.Rules.{typed, asFun}
 use Rattle.judging.specs.declared.work.Step.the-variants.{Go, Stop}
@@ -72,7 +72,7 @@ module _ {img w : List ℕ} {at n left : ℕ} (O : Some2 img w at n left) where
             kept = kept-refl w (slot left) (slot left + 256);
             says = λ v x G pl k K I sm u J su.
                 by-slot (λ k. StepOut w left n (after2 x k m u need) (Stop 12 part)) k (kept-fun x k m (coded O v x G ∙ e) K) I (λ a s y ha hs hy wy z sy.
-                let q : subtype u a ≡ false = sym (sub-is u a) ∙ cmp-differ (slot (left - 1) + tySize u) (related below u a) (sym f ∙ D .says u a (J .there) ha) in
+                let q : subtype u a ≡ false = sym (sub-is u a) ∙ cmp-differ (slot (left - 1) + tySize u) (related below u a) (sym f ∙ says D u a (J .there) ha) in
                 by-app (λ x. place2 (partsOf x) ≡ part → StepOut w left n (after2 x (fun a s y) m u need) (Stop 12 part)) x (coded O v x G ∙ e) (λ p₀ a₀ b₀ pl. rw (q, pl)) pl);
           }
 
@@ -84,7 +84,7 @@ module _ {img w : List ℕ} {at n left : ℕ} (O : Some2 img w at n left) where
             kept = c .kept;
             says = λ v x G pl k K I sm u J su.
                 by-slot (λ k. StepOut w′ left n (after2 x k m u need) (Go (bitOr (bitOr m need) (word32 w p)))) k (kept-fun x k m (coded O v x G ∙ e) K) I (λ a s y ha hs hy wy z sy.
-                let q : subtype u a ≡ true = sym (sub-is u a) ∙ cmp-next (slot (left - 1) + tySize u) q₀ (related below u a) (sym f ∙ D .says u a (J .there) ha) .0 in
+                let q : subtype u a ≡ true = sym (sub-is u a) ∙ cmp-next (slot (left - 1) + tySize u) q₀ (related below u a) (sym f ∙ says D u a (J .there) ha) .0 in
                 let pz : p ≡ slot left + 1 + tySize a = d a ha in
                 let sz : word32 w p ≡ s = ap (word32 w) pz ∙ hs .1 in
                 let hy₁ : Holds w (p + 4) y = rw pz hy in

@@ -9,12 +9,12 @@ use lib.ListN.{length, getD, set, length-set}
 use lib.Seq.{getD-set-same}
 use Rattle.paper.specs.Sets.{union}
 use Rattle.paper.specs.Types.{Ty, unit, tySize, subtype, related, below}
-use Rattle.judging.specs.Holds.{Holds}
+use Rattle.types.specs.Holds.{Holds}
 use Rattle.judging.proofs.Held.{kept-refl, kept-wider, kept-set}
-use Rattle.judging.specs.Subtype.{Related}
-use Rattle.judging.specs.declared.subtype.Cmp.{Cmp}
-use Rattle.judging.specs.declared.subtype.Cmp.the-variants.{Next, Differ}
-use Rattle.judging.proofs.subtype.Laws.{cmp-next, cmp-differ, sub-is}
+use Rattle.types.specs.Subtype.{Related}
+use Rattle.types.specs.declared.subtype.Cmp.{Cmp}
+use Rattle.types.specs.declared.subtype.Cmp.the-variants.{Next, Differ}
+use Rattle.types.proofs.subtype.Says.{says, cmp-next, cmp-differ, sub-is}
 use Rattle.reading.specs.Placed as e
 use Rattle.reading.specs.Placed.{Exp, placeOf}
 use Rattle.judging.specs.declared.work.Step.the-variants.{Go, Stop}
@@ -40,7 +40,7 @@ module _ {img w : List ℕ} {at n left part m need : ℕ} {r : Cmp} (O : Some2 i
         kept = kept-refl w (slot left) (slot left + 256);
         says = λ v x G pl k K I sm u J su.
             by-cond ez v x (λ x. place2 (partsOf x) ≡ part → StepOut w left n (after2 x k m u need) (Stop 12 part)) G
-            (λ t a c d p h pl. let q : subtype u t ≡ false = sym (sub-is u t) ∙ cmp-differ (slot (left - 1) + tySize u) (related below u t) (sym f ∙ D .says u t (J .there) h) in rw (q, pl)) pl;
+            (λ t a c d p h pl. let q : subtype u t ≡ false = sym (sub-is u t) ∙ cmp-differ (slot (left - 1) + tySize u) (related below u t) (sym f ∙ says D u t (J .there) h) in rw (q, pl)) pl;
       }
 
   pub cond-go : (q₀ : ℕ) → r ≡ Next q₀ → Second img w (set w (slot left) 32) at n left part m need (Go (bitOr m need))
@@ -51,7 +51,7 @@ module _ {img w : List ℕ} {at n left part m need : ℕ} {r : Cmp} (O : Some2 i
         kept = kept-wider (kept-set w (slot left) 32) (slot left) (slot left + 256) (omega arith) (omega arith);
         says = λ v x G pl k K I sm u J su.
             by-cond ez v x (λ x. StepOut (set w (slot left) 32) left n (after2 x k m u need) (Go (bitOr m need))) G
-            (λ t a c₀ d p h. let q : subtype u t ≡ true = sym (sub-is u t) ∙ cmp-next (slot (left - 1) + tySize u) q₀ (related below u t) (sym f ∙ D .says u t (J .there) h) .0 in
+            (λ t a c₀ d p h. let q : subtype u t ≡ true = sym (sub-is u t) ∙ cmp-next (slot (left - 1) + tySize u) q₀ (related below u t) (sym f ∙ says D u t (J .there) h) .0 in
             rw q (gone n (bitOr m need) (union m need) (InSlot (set w (slot left) 32) left n unit) (two-needs n m need (G .few) sm su) (or-lt n m need sm su)
             (record { there = (omega (arith, length-set w (slot left) 32), getD-set-same w (slot left) 32 0 (omega arith)); within = tt; short = omega arith })));
       }

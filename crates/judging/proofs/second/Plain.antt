@@ -1,5 +1,5 @@
 -- The steps after the second part of a section and of an addition.
-use mathlib.Core.Path.{_≡_, refl, sym, _∙_, subst}
+use mathlib.Core.Path.{_≡_, refl, _∙_, subst}
 use mathlib.Core.List.{List}
 use Prim.Native.Nat.{ℕ, _+_, _-_, _^_, _<_, _≤_}
 use native.Mathlib.Omega.{arith}
@@ -8,19 +8,16 @@ use lib.ListN.{length, getD, set, length-set}
 use lib.Seq.{getD-set-same}
 use Rattle.paper.specs.Sets.{single, union, less, within}
 use Rattle.paper.specs.Types.{Ty, unit, int, lock, ref, fun, tySize}
-use Rattle.judging.specs.Holds.{Holds}
+use Rattle.types.specs.Holds.{Holds}
 use Rattle.judging.proofs.Held.{kept-refl, kept-wider, kept-set}
 use Rattle.judging.specs.Copies.{Movable, Moved}
-use Rattle.reading.specs.Placed as e
 use Rattle.reading.specs.Placed.{Exp, placeOf}
-use Rattle.reading.specs.Walk.{parts}
-use Rattle.reading.proofs.first.Laws.{by-code}
 use Rattle.judging.specs.Rules.{Judged, typed, refused, asLock, asInt}
 use Rattle.judging.specs.declared.work.Step.the-variants.{Go, Stop}
 use Rattle.judging.proofs.Gone.{gone, two-needs, less-small}
 use Rattle.judging.specs.Phases.{partsOf, after1, after2}
 use Rattle.judging.specs.Work.{slot, InSlot}
-use Rattle.judging.specs.Contract.{StepOut, Given, Second, Some2, place2, Kept1, Walks}
+use Rattle.judging.specs.Contract.{StepOut, Given, Second, Some2, place2, Kept1}
 use Rattle.judging.proofs.Buffer.{slot-moved, slot-movable}
 use Rattle.judging.proofs.Cases.{codeNum, by-sync, by-add}
 use Rattle.judging.proofs.Node.{read-whole}
@@ -55,24 +52,12 @@ not-33 w i (lock a) p f h z = refl
 not-33 w i (ref a t) p f h z = refl
 not-33 w i (fun a s y) p f h z = refl
 
--- the code that is left where the others were asked for
-if-last : (b : ℕ) → (b ≡ 0 → ⊥) → b ≤ 15 → Walks b → (parts b ≡ 1 → ⊥) → (b ≡ 5 → ⊥) → (b ≡ 8 → ⊥) → (b ≡ 11 → ⊥) → (b ≡ 14 → ⊥) → b ≡ 15
-unfolding parts
-if-last b z u =
-    by-code (λ b. Walks b → (parts b ≡ 1 → ⊥) → (b ≡ 5 → ⊥) → (b ≡ 8 → ⊥) → (b ≡ 11 → ⊥) → (b ≡ 14 → ⊥) → b ≡ 15) b z u
-    (λ W. absurd (omega (arith, W .some))) (λ W. absurd (omega (arith, W .some))) (λ W. absurd (omega (arith, W .some)))
-    (λ W n. absurd (n refl)) (λ W n a. absurd (a refl)) (λ W n. absurd (n refl)) (λ W n. absurd (n refl)) (λ W n a b. absurd (b refl)) (λ W n. absurd (n refl)) (λ W n. absurd (n refl))
-    (λ W n a b c. absurd (c refl)) (λ W. absurd (W .no-let refl)) (λ W. absurd (W .no-then refl)) (λ W n a b c d. absurd (d refl)) (λ W n a b c d. refl)
-
 module _ {img w : List ℕ} {at n left : ℕ} (O : Some2 img w at n left) where
   pub facts : (1 ≤ left) × (left ≤ 64) × (at < length img) × (40960 ≤ length w) × (n ≤ 32)
   facts =
       let W = read-whole left (O .0) n img at (O .1) (O .2 .next) (O .2 .reads) in
       let z = W .more in
       (omega arith, omega (arith, O .2 .deep), W .inn, O .2 .room, O .2 .few)
-
-  pub coded-15 : Walks (getD img at 0) → (parts (getD img at 0) ≡ 1 → ⊥) → (getD img at 0 ≡ 5 → ⊥) → (getD img at 0 ≡ 8 → ⊥) → (getD img at 0 ≡ 11 → ⊥) → (getD img at 0 ≡ 14 → ⊥) → getD img at 0 ≡ 15
-  coded-15 = let W = read-whole left (O .0) n img at (O .1) (O .2 .next) (O .2 .reads) in if-last (getD img at 0) (W .some) (W .most)
 
   pub part-movable : Movable w (slot (left - 1)) (slot left)
   part-movable = let F = facts in slot-movable w left n (O .5) (F .3) (F .0) (F .1) (O .6)

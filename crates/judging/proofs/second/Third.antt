@@ -8,15 +8,15 @@ use lib.Bits.{or-lt, bitOr}
 use lib.ListN.{length}
 use Rattle.paper.specs.Sets.{union, within}
 use Rattle.paper.specs.Types.{Ty, tySize, subtype, related, below}
-use Rattle.judging.specs.Holds.{Holds}
+use Rattle.types.specs.Holds.{Holds}
 use Rattle.judging.proofs.Held.{holds-end, kept-refl, kept-wider}
 use Rattle.judging.specs.Copies.{Copied, Ends}
 use Rattle.judging.proofs.copies.Laws.{holds-copied}
 use Rattle.judging.specs.Shift.{Within}
-use Rattle.judging.specs.Subtype.{Related}
-use Rattle.judging.specs.declared.subtype.Cmp.{Cmp}
-use Rattle.judging.specs.declared.subtype.Cmp.the-variants.{Next, Differ}
-use Rattle.judging.proofs.subtype.Laws.{cmp-next, cmp-differ, sub-is}
+use Rattle.types.specs.Subtype.{Related}
+use Rattle.types.specs.declared.subtype.Cmp.{Cmp}
+use Rattle.types.specs.declared.subtype.Cmp.the-variants.{Next, Differ}
+use Rattle.types.proofs.subtype.Says.{says, cmp-next, cmp-differ, sub-is}
 use Rattle.reading.specs.Placed as e
 use Rattle.reading.specs.Placed.{Exp, placeOf}
 use Rattle.judging.specs.declared.work.Step.the-variants.{Go, Stop}
@@ -55,7 +55,7 @@ module _ {img w : List ℕ} {at n left : ℕ} (O : Some3 img w at n left) where
           kept = kept-refl w (slot left) (slot left + 256);
           says = λ v x G pl sm u J su.
               by-cond v x (λ x. place3 (partsOf x) ≡ part → StepOut w left n (after3 x m u need) (Stop 12 part)) G
-              (λ t a c d p h wt s pl. let q : subtype u t ≡ false = sym (sub-is u t) ∙ cmp-differ (slot (left - 1) + tySize u) (related below u t) (sym f ∙ D .says u t (J .there) h) in rw (q, pl)) pl;
+              (λ t a c d p h wt s pl. let q : subtype u t ≡ false = sym (sub-is u t) ∙ cmp-differ (slot (left - 1) + tySize u) (related below u t) (sym f ∙ says D u t (J .there) h) in rw (q, pl)) pl;
         }
 
     pub third-go : (q₀ p : ℕ) (w′ : List ℕ) → r ≡ Next q₀ → Ends img (at + 1) p → Copied img (at + 1) (p - (at + 1)) w w′ (slot left) → Third img w w′ at n left part m need (Go (bitOr m need))
@@ -68,7 +68,7 @@ module _ {img w : List ℕ} {at n left : ℕ} (O : Some3 img w at n left) where
           says = λ v x G pl sm u J su.
               by-cond v x (λ x. StepOut w′ left n (after3 x m u need) (Go (bitOr m need))) G
               (λ t a c₀ d₀ p₀ h wt s.
-              let q : subtype u t ≡ true = sym (sub-is u t) ∙ cmp-next (slot (left - 1) + tySize u) q₀ (related below u t) (sym f ∙ D .says u t (J .there) h) .0 in
+              let q : subtype u t ≡ true = sym (sub-is u t) ∙ cmp-next (slot (left - 1) + tySize u) q₀ (related below u t) (sym f ∙ says D u t (J .there) h) .0 in
               let z = d t h in
               rw q (gone n (bitOr m need) (union m need) (InSlot w′ left n t) (two-needs n m need (G .few) sm su) (or-lt n m need sm su) (record { there = holds-copied img (at + 1) (p - (at + 1)) w w′ (slot left) t c (omega (arith, S .1)) (omega arith) h; within = wt; short = s })));
         }

@@ -10,10 +10,10 @@ use lib.Seq.{getD-set-same}
 use Rattle.paper.specs.Sets.{single, union, within}
 use Rattle.paper.specs.Types.{Ty, unit, int, lock, ref, fun, tySize, subtype, related, below}
 use Rattle.judging.proofs.Held.{kept-refl, kept-wider, kept-set}
-use Rattle.judging.specs.Subtype.{Related}
-use Rattle.judging.specs.declared.subtype.Cmp.{Cmp}
-use Rattle.judging.specs.declared.subtype.Cmp.the-variants.{Next, Differ}
-use Rattle.judging.proofs.subtype.Laws.{cmp-next, cmp-differ, sub-is}
+use Rattle.types.specs.Subtype.{Related}
+use Rattle.types.specs.declared.subtype.Cmp.{Cmp}
+use Rattle.types.specs.declared.subtype.Cmp.the-variants.{Next, Differ}
+use Rattle.types.proofs.subtype.Says.{says, cmp-next, cmp-differ, sub-is}
 use Rattle.reading.specs.Placed.{Exp, placeOf}
 use Rattle.judging.specs.Rules.{typed, asRef}
 use Rattle.judging.specs.declared.work.Step.the-variants.{Go, Stop}
@@ -57,7 +57,7 @@ module _ {img w : List ℕ} {at n left : ℕ} (O : Some2 img w at n left) where
       where
         go : (v : ℕ) (x : Exp) → Given img w at v n left x → place2 (partsOf x) ≡ part → (k : Ty) → IsRef k → InSlot w left n k → (u : Ty) → InSlot w (left - 1) n u → StepOut w left n (after2 x k m u need) (Stop 12 part)
         go v x G pl k (is-ref a t) I u J =
-            let q : subtype u t ≡ false = sym (sub-is u t) ∙ cmp-differ (slot (left - 1) + tySize u) (related below u t) (sym f ∙ D .says u t (J .there) (I .there .2)) in
+            let q : subtype u t ≡ false = sym (sub-is u t) ∙ cmp-differ (slot (left - 1) + tySize u) (related below u t) (sym f ∙ says D u t (J .there) (I .there .2)) in
             by-write (λ x. place2 (partsOf x) ≡ part → StepOut w left n (after2 x (ref a t) m u need) (Stop 12 part)) x (coded O v x G ∙ e) (λ p₀ a₀ c₀ pl. rw (q, pl)) pl
 
     pub write-go : (q₀ : ℕ) → r ≡ Next q₀ → Second img w (set w (slot left) 32) at n left part m need (Go (bitOr (bitOr m need) (single (getD w (slot left + 1) 0))))
@@ -73,7 +73,7 @@ module _ {img w : List ℕ} {at n left : ℕ} (O : Some2 img w at n left) where
 
         go : (v : ℕ) (x : Exp) → Given img w at v n left x → (k : Ty) → IsRef k → InSlot w left n k → m < 2 ^ n → (u : Ty) → InSlot w (left - 1) n u → need < 2 ^ n → StepOut (set w (slot left) 32) left n (after2 x k m u need) (Go (bitOr (bitOr m need) (single (getD w (slot left + 1) 0))))
         go v x G k (is-ref a t) I sm u J su =
-            let q : subtype u t ≡ true = sym (sub-is u t) ∙ cmp-next (slot (left - 1) + tySize u) q₀ (related below u t) (sym f ∙ D .says u t (J .there) (I .there .2)) .0 in
+            let q : subtype u t ≡ true = sym (sub-is u t) ∙ cmp-next (slot (left - 1) + tySize u) q₀ (related below u t) (sym f ∙ says D u t (J .there) (I .there .2)) .0 in
             let z : getD w (slot left + 1) 0 ≡ a = I .there .1 .1 in
             by-write (λ x. StepOut (set w (slot left) 32) left n (after2 x (ref a t) m u need) (Go (bitOr (bitOr m need) (single (getD w (slot left + 1) 0))))) x (coded O v x G ∙ e)
             (λ p₀ a₀ c₀. let ja = just-small n a (I .within .0) in rw (q, z) (gone n (bitOr (bitOr m need) (single a)) (union (union m need) (single a)) (InSlot (set w (slot left) 32) left n unit) (three-needs n m need (G .few) sm su (single a) ja) (or-lt n (bitOr m need) (single a) (or-lt n m need sm su) ja) unit-there))

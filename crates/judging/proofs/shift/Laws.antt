@@ -11,7 +11,8 @@ use native.Mathlib.Nat.{add-zero, add-assoc, mul-one, mul-assoc, mul-lt-mul-of-p
 use lib.Pow.{pow-pos, pow-mono, pow-add}
 use lib.ListN.{length, getD, set, length-set}
 use lib.Seq.{getD-set-same}
-use Rattle.judging.specs.Holds.{Holds, Byte, Four, put}
+use Rattle.types.specs.Holds.{Holds, Byte, Four}
+use Rattle.judging.specs.Holds.{put}
 use Rattle.judging.proofs.Held.{held, by-lock, by-ref, by-fun, by-leaf, holds-below, holds-above, four-below, four-above, byte-below, kept-wider, kept-then, kept-refl, kept-set, kept-put, four-put}
 use Rattle.judging.specs.Shift.{Within, raised, Raisable, Raised, Raises}
 

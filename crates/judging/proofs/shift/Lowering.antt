@@ -13,7 +13,8 @@ use borrow.Author.Tests.{eq-eqb, ne-eqb}
 use Rattle.paper.specs.Base.{word32}
 use Rattle.paper.specs.Sets.{has, lowered}
 use Rattle.paper.specs.Types.{Ty, unit, int, lock, ref, fun, tySize, lower, mentions}
-use Rattle.judging.specs.Holds.{Holds, Byte, Four, put}
+use Rattle.types.specs.Holds.{Holds, Byte, Four}
+use Rattle.judging.specs.Holds.{put}
 use Rattle.judging.proofs.Held.{held, by-lock, by-ref, by-fun, by-leaf, holds-below, holds-above, four-below, four-above, byte-below, kept-wider, kept-then, kept-refl, kept-set, kept-put, four-put}
 use Rattle.judging.specs.declared.shift.Low.{Low}
 use Rattle.judging.specs.declared.shift.Low.the-variants.{Next, Mentions}

@@ -1,7 +1,7 @@
 -- A let or a then: what the calls of its two parts may ask, and what each way out answers.
 use mathlib.Core.Path.{_≡_, refl, ap, sym, _∙_, subst}
 use mathlib.Core.List.{List}
-use mathlib.Core.Logic.{inl, inr}
+use mathlib.Core.Logic.{_⊎_, inl, inr}
 use Prim.Native.Nat.{ℕ, _+_, _-_, _<_}
 use native.Mathlib.Omega.{arith}
 use native.Mathlib.Nat.{add-zero, pos-of-ne-zero}
@@ -19,17 +19,29 @@ use Rattle.judging.specs.Copies.{Movable, Moved}
 use Rattle.judging.specs.Rules.{typed, refused, _next_, judge}
 use Rattle.judging.specs.Phases.{partsOf, env2}
 use Rattle.judging.specs.Work.{slot, Env, Frame}
-use Rattle.judging.specs.Contract.{Out, Ready, Finds, Bindable, Bound, Chained}
+use Rattle.judging.specs.Contract.{Out, Ready, Finds, Bindable, Bound}
 use Rattle.judging.proofs.Cases.{by-letIn, by-seq}
 use Rattle.judging.proofs.Gone.{two-needs}
 use Rattle.judging.proofs.Node.{PartsAt, read-whole}
 use Rattle.judging.proofs.Buffer.{env-same, slot-moved, slot-movable, frame-then, frame-part, frame-env, frame-slot, out-refused, Gave, out-typed}
-use Rattle.judging.proofs.binding.Env.{binds1-other, locks1-other}
+use Rattle.judging.proofs.binding.Env.{binds1-other, locks1-other, bind-other}
 use Rattle.judging.proofs.binding.Start.{Own, start-other}
 use Rattle.judging.proofs.typing.Parts.{binds2-le, refused-next, typed-then}
 use Rattle.judging.proofs.typing.One.{finds, some-left}
 
--- ---- the two parts of a let or a then
+-- a let or a then
+abbrev pub Chained : ℕ → Type 0
+Chained b = (b ≡ 12) ⊎ (b ≡ 13)
+
+pub let-binds : {b : ℕ} (v : ℕ) → b ≡ 12 → v + binds2 b ≡ v + 1
+unfolding binds2
+let-binds v e = rw e
+
+pub then-binds : {b : ℕ} (v : ℕ) → b ≡ 13 → v + binds2 b ≡ v
+unfolding binds2
+then-binds v e = rw e (add-zero v)
+
+-- ---- its two parts
 record Halves (d v n : ℕ) (img : List ℕ) (at : ℕ) (x : Exp) (nx : ℕ) : Type 0 where
   a : Exp
   b : Exp
@@ -110,18 +122,22 @@ module _ {img w : List ℕ} {at v n left : ℕ} (S : Ready img w at v n left) (c
             there = gave-1 S .slotted;
           }
 
-      -- ---- what the second part is under is bound, b variables, and its call is due
-      module _ {w3 : List ℕ} {b : ℕ} (B : Bound img w2 w3 at v n left) (e : b ≡ binds2 (getD img at 0)) where
+      -- a then binds nothing
+      pub then-bound : getD img at 0 ≡ 13 → Bound img w2 w2 at v n left
+      then-bound e = bind-other (bindable .ready) (λ f. omega arith)
+
+      -- ---- what the second part is under is bound, so that there are v2 variables, and its call is due
+      module _ {w3 : List ℕ} {v2 : ℕ} (B : Bound img w2 w3 at v n left) (e : v + binds2 (getD img at 0) ≡ v2) where
         frame-3 : Frame w w3 v left
         frame-3 = frame-then v left frame-2 (frame-env v left (B .change) (omega (arith, S .deep)))
 
-        reads-2 : (R : Ready img w at v n left) → expAt (left - 1) (v + b) n img p2 ≡ got (half R .b) (R .next)
-        reads-2 R = rw (e, sym (gave-1 R .next-is)) (half R .second)
+        reads-2 : (R : Ready img w at v n left) → expAt (left - 1) v2 n img p2 ≡ got (half R .b) (R .next)
+        reads-2 R = rw (sym (gave-1 R .next-is)) (rw e at (half R .second))
 
-        held-3 : (R : Ready img w at v n left) → Env w3 (v + b) n (env2 (R .x) (gave-1 R .type) (R .env))
-        held-3 R = rw e (B .says (R .x) (R .next) (R .env) (gave-1 R .type) (R .reads) (held-2 R) (gave-1 R .slotted))
+        held-3 : (R : Ready img w at v n left) → Env w3 v2 n (env2 (R .x) (gave-1 R .type) (R .env))
+        held-3 R = rw e at (B .says (R .x) (R .next) (R .env) (gave-1 R .type) (R .reads) (held-2 R) (gave-1 R .slotted))
 
-        pub chain-ready-2 : Ready img w3 p2 (v + b) n (left - 1)
+        pub chain-ready-2 : Ready img w3 p2 v2 n (left - 1)
         chain-ready-2 =
             let W = read-whole left v n img at (S .x) (S .next) (S .reads) in
             let d = some-left S in
@@ -137,9 +153,9 @@ module _ {img w : List ℕ} {at v n left : ℕ} (S : Ready img w at v n left) (c
             }
 
         -- after the call
-        module _ {r2 : Answer} {w4 : List ℕ} (J2 : Finds img w3 w4 p2 (v + b) n (left - 1) r2) where
+        module _ {r2 : Answer} {w4 : List ℕ} (J2 : Finds img w3 w4 p2 v2 n (left - 1) r2) where
           frame-4 : Frame w w4 v left
-          frame-4 = frame-then v left frame-3 (frame-part v left b (J2 .frame) (omega (arith, S .deep)))
+          frame-4 = frame-then v left frame-3 (frame-part v left (binds2 (getD img at 0)) (rw e (J2 .frame)) (omega (arith, S .deep)))
 
           out-2 : (R : Ready img w at v n left) → Out w4 (left - 1) n (R .next) (judge (env2 (R .x) (gave-1 R .type) (R .env)) (half R .b)) r2
           out-2 R = J2 .says (half R .b) (R .next) (env2 (R .x) (gave-1 R .type) (R .env)) (reads-2 R) (held-3 R)

@@ -20,7 +20,7 @@ use Rattle.judging.specs.Work.{Env, Frame, InSlot}
 use Rattle.judging.specs.Contract.{Out, StepOut, Ready, Finds, Entered, Given, First, Kept1, Some1, Starts}
 use Rattle.judging.proofs.Walked.{walked}
 use Rattle.judging.proofs.Node.{count, read-whole}
-use Rattle.judging.proofs.Buffer.{env-same, frame-then, frame-part, frame-env, frame-slot, out-refused, Gave, out-typed, step-stop, Went, step-go}
+use Rattle.judging.proofs.Buffer.{frame-then, frame-part, frame-env, frame-slot, out-refused, Gave, out-typed, step-stop, Went, step-go}
 use Rattle.judging.proofs.typing.Parts.{parts-some, binds1-le, head, rest1, walk-1, refused-next, typed-then, Then1, part-1, place-of, place1-head, one-more, one-rest}
 
 pub less-left : (left t : ℕ) → 2 * left ≡ t → (left ≡ 0 → ⊥) → 2 * (left - 1) + 1 < t
@@ -45,13 +45,15 @@ module _ {img w : List ℕ} {at v n left : ℕ} where
   pub given : (R : Ready img w at v n left) (w′ : List ℕ) → length w′ ≡ length w → Given img w′ at v n left (R .x)
   given R w′ l = record { next = R .next; reads = R .reads; few = R .few; deep = R .deep; room = rw l (R .room) }
 
--- ---- the call of the first part is due: its place is known, and what it binds is bound
+-- ---- the call of the first part is due: its place is known, and what it binds is bound, so that it is under v1 variables and n1 locks
 
-pub record Started (img w w1 : List ℕ) (at v n left p1 : ℕ) : Type 0 where
+pub record Started (img w w1 : List ℕ) (at v n left p1 v1 n1 : ℕ) : Type 0 where
   pub ready : Ready img w at v n left
   pub big : 3 < getD img at 0
   pub starts : Starts img at v n p1
   pub entered : Entered img w w1 at v n
+  pub vars : v + binds1 (getD img at 0) ≡ v1
+  pub locks : n + locks1 (getD img at 0) ≡ n1
 
 -- what the step after the first part leaves: a type in the slot, the need so far, and what the rules' judge still does
 pub record Goes1 (img w w3 : List ℕ) (at v n left p2 l1 : ℕ) (R : Ready img w at v n left) : Type 0 where
@@ -69,7 +71,7 @@ pub record After1 (img w w3 : List ℕ) (at v n left p2 l1 : ℕ) : Type 0 where
   pub frame : Frame w w3 v left
   pub each : (R : Ready img w at v n left) → Goes1 img w w3 at v n left p2 l1 R
 
-module _ {img w w1 : List ℕ} {at v n left p1 : ℕ} (S : Started img w w1 at v n left p1) where
+module _ {img w w1 : List ℕ} {at v n left p1 v1 n1 : ℕ} (S : Started img w w1 at v n left p1 v1 n1) where
   record Read1 (R : Ready img w at v n left) : Type 0 where
     q : ℕ
     not0 : count (partsOf (R .x)) ≡ 0 → ⊥
@@ -95,7 +97,7 @@ module _ {img w w1 : List ℕ} {at v n left p1 : ℕ} (S : Started img w w1 at v
   held-1 : (R : Ready img w at v n left) → Env w1 (v + binds1 (getD img at 0)) (n + locks1 (getD img at 0)) (env1 (R .x) (R .env))
   held-1 R = S .entered .says left (R .x) (R .next) (R .env) (R .reads) (R .held)
 
-  pub ready-1 : Ready img w1 p1 (v + binds1 (getD img at 0)) (n + locks1 (getD img at 0)) (left - 1)
+  pub ready-1 : Ready img w1 p1 v1 n1 (left - 1)
   ready-1 =
       let R = S .ready in
       let W = read-whole left v n img at (R .x) (R .next) (R .reads) in
@@ -105,23 +107,26 @@ module _ {img w w1 : List ℕ} {at v n left p1 : ℕ} (S : Started img w w1 at v
         x = head (partsOf (R .x));
         next = read-1 R .q;
         env = env1 (R .x) (R .env);
-        reads = read-1 R .first;
-        held = held-1 R;
-        deep = omega (arith, R .deep);
-        few = lock-room (getD img at 0) v n img at refl (W .is .own) refl (R .few);
+        reads = rw (S .vars, S .locks) at (read-1 R .first);
+        held = rw (S .vars, S .locks) at (held-1 R);
+        deep = omega (arith, R .deep, S .vars);
+        few = rw (S .locks) at (lock-room (getD img at 0) v n img at refl (W .is .own) refl (R .few));
         room = omega (arith, R .room, S .entered .change .long);
       }
 
   -- after the call
-  module _ {r1 : Answer} {w2 : List ℕ} (J1 : Finds img w1 w2 p1 (v + binds1 (getD img at 0)) (n + locks1 (getD img at 0)) (left - 1) r1) where
+  module _ {r1 : Answer} {w2 : List ℕ} (J1 : Finds img w1 w2 p1 v1 n1 (left - 1) r1) where
+    found : Finds img w1 w2 p1 (v + binds1 (getD img at 0)) (n + locks1 (getD img at 0)) (left - 1) r1
+    found = rw (S .vars, S .locks) J1
+
     frame-2 : Frame w w2 v left
     frame-2 =
         let R = S .ready in
         frame-then v left (frame-env v left (S .entered .change) (omega (arith, R .deep)))
-        (frame-part v left (binds1 (getD img at 0)) (J1 .frame) (omega (arith, R .deep)))
+        (frame-part v left (binds1 (getD img at 0)) (found .frame) (omega (arith, R .deep)))
 
     out-1 : (R : Ready img w at v n left) → Out w2 (left - 1) (n + locks1 (getD img at 0)) (read-1 R .q) (judge (env1 (R .x) (R .env)) (head (partsOf (R .x)))) r1
-    out-1 R = J1 .says (head (partsOf (R .x))) (read-1 R .q) (env1 (R .x) (R .env)) (read-1 R .first) (held-1 R)
+    out-1 R = found .says (head (partsOf (R .x))) (read-1 R .q) (env1 (R .x) (R .env)) (read-1 R .first) (held-1 R)
 
     whole-1 : (R : Ready img w at v n left)
         → (judge (env1 (R .x) (R .env)) (head (partsOf (R .x))) next λ t m. after1 (R .x) t m next λ k l. rest1 (R .env) (R .x) (partsOf (R .x)) k l)
@@ -143,7 +148,7 @@ module _ {img w w1 : List ℕ} {at v n left p1 : ℕ} (S : Started img w w1 at v
       pub some-1 : Some1 img w2 at n left
       some-1 = let R = S .ready in let g = gave-1 R in (v, R .x, given R w2 (frame-2 .long), g .type, g .slotted)
 
-      -- after `after_first`
+      -- after the step
       module _ {s1 : Step} {w3 : List ℕ} (A1 : First img w2 w3 at n left p1 m1 s1) where
         frame-3 : Frame w w3 v left
         frame-3 = frame-then v left frame-2 (frame-slot v left (A1 .kept) (S .ready .deep))

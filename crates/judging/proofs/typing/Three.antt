@@ -49,7 +49,7 @@ module _ {img w w6 : List ℕ} {at v n left p3 l2 : ℕ} (D : Due3 img w w6 at v
 
   -- after the call
   module _ {r3 : Answer} {w7 : List ℕ} (J3 : Finds img w6 w7 p3 v n (left - 1) r3) where
-    pub frame-7 : Frame w w7 v left
+    frame-7 : Frame w w7 v left
     frame-7 = frame-then v left (D .after .frame) (frame-part v left 0 (rw (add-zero v) (J3 .frame)) (omega (arith, D .after .ready .deep)))
 
     out-3 : (R : Ready img w at v n left) → Out w7 (left - 1) n (R .next) (judge (R .env) (third (partsOf (R .x)))) r3
@@ -77,9 +77,9 @@ module _ {img w w6 : List ℕ} {at v n left p3 l2 : ℕ} (D : Due3 img w w6 at v
           let g = gave-3 R in
           (v, R .x, given R w7 (frame-7 .long), three-15 (getD img at 0) (W .some) (W .most) (W .is .how-many ∙ read-3 R .1), g .type, g .slotted)
 
-      -- after `after_third`
+      -- after the step
       module _ {s3 : Step} {w8 : List ℕ} (A3 : Third img w7 w8 at n left p3 l2 m3 s3) where
-        pub frame-8 : Frame w w8 v left
+        frame-8 : Frame w w8 v left
         frame-8 = frame-then v left frame-7 (frame-slot v left (A3 .kept) (D .after .ready .deep))
 
         step-3 : (R : Ready img w at v n left) → StepOut w8 left n (after3 (R .x) l2 (gave-3 R .type) m3) s3

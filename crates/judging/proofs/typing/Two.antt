@@ -1,7 +1,7 @@
 -- The walk over an expression's second part: what the calls may ask, and what each way out answers.
 use mathlib.Core.Path.{_≡_, ap, sym, _∙_, subst}
 use mathlib.Core.List.{List}
-use Prim.Native.Nat.{ℕ, _+_, _-_, _^_, _<_}
+use Prim.Native.Nat.{ℕ, _-_, _^_, _<_}
 use native.Mathlib.Omega.{arith}
 use native.Mathlib.Nat.{add-zero}
 use lib.ListN.{getD}
@@ -82,7 +82,7 @@ module _ {img w w3 : List ℕ} {at v n left p2 l1 : ℕ} (D : Due2 img w w3 at v
 
   -- after the call
   module _ {r2 : Answer} {w5 : List ℕ} (J2 : Finds img w3 w5 p2 v n (left - 1) r2) where
-    pub frame-5 : Frame w w5 v left
+    frame-5 : Frame w w5 v left
     frame-5 = frame-then v left (D .after .frame) (frame-part v left 0 (rw (add-zero v) (J2 .frame)) (omega (arith, D .after .ready .deep)))
 
     out-2 : (R : Ready img w at v n left) → Out w5 (left - 1) n (read-2 R .q) (judge (R .env) (second (partsOf (R .x)))) r2
@@ -115,9 +115,9 @@ module _ {img w w3 : List ℕ} {at v n left p2 l1 : ℕ} (D : Due2 img w w3 at v
       pub some-2 : Some2 img w5 at n left
       some-2 = let R = D .after .ready in let g = gave-2 R in (v, R .x, given R w5 (frame-5 .long), D .after .each R .type, still R, g .type, g .slotted, l1, D .after .each R .was)
 
-      -- after `after_second`
+      -- after the step
       module _ {s2 : Step} {w6 : List ℕ} (A2 : Second img w5 w6 at n left p2 l1 m2 s2) where
-        pub frame-6 : Frame w w6 v left
+        frame-6 : Frame w w6 v left
         frame-6 = frame-then v left frame-5 (frame-slot v left (A2 .kept) (D .after .ready .deep))
 
         step-2 : (R : Ready img w at v n left) → StepOut w6 left n (after2 (R .x) (D .after .each R .type) l1 (gave-2 R .type) m2) s2

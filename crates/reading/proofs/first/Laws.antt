@@ -11,14 +11,14 @@ use lib.ListN.{length, getD}
 use lib.Dec.{ltb, eqb, lit<}
 use borrow.Author.Tests.{le-ltb, lt-ltb, le-leb, lt-leb, ne-eqb, ltb-true}
 use Rattle.paper.specs.Reading.{got, wrong}
-use Rattle.types.specs.Stated.{_then_, pick}
+use Rattle.types.specs.Stated.{_then_, pick, nameAt, setAt, statedAt}
 use Rattle.types.specs.declared.stated.Got.{Got}
 use Rattle.types.specs.declared.stated.Got.the-variants.{Next, Refused}
 use Rattle.types.specs.Told.{told, on}
 use Rattle.types.proofs.stated.Laws.{told-then, told-as}
-use Rattle.reading.specs.Placed.{Exp, lam, app, cell, read, write, fork, newLock, sync, letIn, seq, add, ifNot0}
+use Rattle.reading.specs.Placed.{Exp, lam, app, cell, write, sync, letIn, seq, add, ifNot0}
 use Rattle.reading.specs.First.{other, codeOf, codeAt, numAt, varAt, expAs, expAt, tooDeep}
-use Rattle.reading.specs.Walk.{fields, parts, binds1, locks1, binds2}
+use Rattle.reading.specs.Walk.{fields, parts, locks1, binds2}
 
 step : (P : ℕ → Type 0) (b k : ℕ) → b ≤ suc k → P (suc k) → (b ≤ k → P b) → P b
 step P b k u p f = go (ℕ-discrete b (suc k))
@@ -82,104 +82,75 @@ module _ (s : List ℕ) (at : ℕ) where
   unfolding told varAt
   var-out v h k = simp (lt-ltb _ _ h, le-ltb _ _ k)
 
--- ---- the walk: fields, then parts
-module _ (d : ℕ) (v n : ℕ) (s : List ℕ) (at : ℕ) where
+-- ---- what is told of an expression with a code: that of its fields and parts in turn, and of the last as of the whole
+module _ (d v n : ℕ) (s : List ℕ) (at : ℕ) where
   abbrev pub E : ℕ → ℕ → ℕ → Got
   E v n p = told (expAt d v n s p)
 
-  abbrev pub third : ℕ → ℕ → Got
-  third b r = pick (eqb (parts b) 2) (Next r) (E v n r)
+  abbrev pub With : ℕ → Got
+  With b = told (expAs (codeOf b) (λ v n p. expAt d v n s p) v n s at)
 
-  abbrev pub second : ℕ → ℕ → Got
-  second b q = pick (eqb (parts b) 1) (Next q) (on (E (v + binds2 b) n q) (third b))
+  pub unit-with : Next (at + 1) ≡ With 1
+  unfolding told expAs codeOf
+  unit-with = refl
 
-  abbrev pub first : ℕ → ℕ → Got
-  first b p = pick (eqb (parts b) 0) (Next p) (on (E (v + binds1 b) (n + locks1 b) p) (second b))
+  pub number-with : told (numAt s (at + 1)) ≡ With 2
+  unfolding expAs codeOf
+  number-with = sym (told-as _ _)
 
-  abbrev pub walk : ℕ → Got
-  walk b = on (fields b v n s at) (first b)
+  pub variable-with : told (varAt v s (at + 1)) ≡ With 3
+  unfolding expAs codeOf
+  variable-with = sym (told-as _ _)
 
-  abbrev Told : ℕ → Type 0
-  Told b = told (expAs (codeOf b) (λ v n p. expAt d v n s p) v n s at) ≡ walk b
+  pub function-with : on (told (statedAt n s (at + 1))) (λ p. on (told (setAt n s p)) (λ q. E (v + 1) n q)) ≡ With 4
+  unfolding expAs codeOf
+  function-with = sym (told-then _ _ _ (λ t p. told-then _ _ _ (λ m q. told-as (expAt d (v + 1) n s q) (lam at t m))))
 
-  one : (f : Exp → Exp) (v n p : ℕ) → told (expAt d v n s p then λ e q. got (f e) q) ≡ on (E v n p) (λ q. Next q)
-  unfolding told
-  one f v n p = told-then _ _ _ (λ e q. refl)
+  pub cell-with : on (told (nameAt n s (at + 1))) (λ p. on (told (statedAt n s p)) (λ q. E v n q)) ≡ With 6
+  unfolding expAs codeOf
+  cell-with = sym (told-then _ _ _ (λ k p. told-then _ _ _ (λ t q. told-as (expAt d v n s q) (cell at k t))))
 
-  two : (f : Exp → Exp → Exp) (w p : ℕ) → told (expAt d v n s p then λ a q. expAt d w n s q then λ b r. got (f a b) r) ≡ on (E v n p) (λ q. on (E w n q) (λ r. Next r))
-  two f w p = told-then _ _ _ (λ a q. one (f a) w n q)
+  pub read-with : E v n (at + 1) ≡ With 7
+  unfolding expAs codeOf
+  read-with = sym (told-as _ _)
 
-  on-on : (r : Got) (f g : ℕ → Got) → on (on r f) g ≡ on r (λ p. on (f p) g)
-  on-on (Next p) f g = refl
-  on-on (Refused k p) f g = refl
+  pub fork-with : E v n (at + 1) ≡ With 9
+  unfolding expAs codeOf
+  fork-with = sym (told-as _ _)
 
-  told1 : Told 1
-  unfolding told expAs codeOf fields parts binds1 locks1 binds2
-  told1 = refl
+  pub lock-with : n < 32 → E (v + 1) (n + 1) (at + 1) ≡ With 10
+  unfolding expAs codeOf
+  lock-with h = rw (lt-ltb n 32 h) (sym (told-as _ _))
 
-  told2 : Told 2
-  unfolding told expAs codeOf fields parts binds1 locks1 binds2
-  told2 = told-then _ _ _ (λ k p. refl)
+  pub lock-over : 32 ≤ n → Refused 7 at ≡ With 10
+  unfolding told expAs codeOf
+  lock-over h = rw (le-ltb n 32 h) refl
 
-  told3 : Told 3
-  unfolding told expAs codeOf fields parts binds1 locks1 binds2
-  told3 = told-then _ _ _ (λ k p. refl)
+  pub if-with : on (told (statedAt n s (at + 1))) (λ p. on (E v n p) (λ q. on (E v n q) (λ r. E v n r))) ≡ With 15
+  unfolding expAs codeOf
+  if-with = sym (told-then _ _ _ (λ t p. told-then _ _ _ (λ a q. told-then _ _ _ (λ b r. told-as (expAt d v n s r) (ifNot0 at t a b)))))
 
-  told4 : Told 4
-  unfolding told expAs codeOf fields parts binds1 locks1 binds2
-  told4 = simp on-on (told-then _ _ _ (λ t p. told-then _ _ _ (λ m q. simp add-zero (one (lam at t m) (v + 1) n q))))
+  -- both parts of an expression that has two, the second under w variables
+  abbrev Both : ℕ → Got
+  Both w = on (E v n (at + 1)) (λ q. E w n q)
 
-  told5 : Told 5
-  unfolding told expAs codeOf fields parts binds1 locks1 binds2
-  told5 = simp add-zero (told-then _ _ _ (λ a q. simp add-zero (one (app at a) v n q)))
+  both : (f : Exp → Exp → Exp) (w : ℕ) → Both w ≡ told (expAt d v n s (at + 1) then λ a p. expAt d w n s p then λ b q. got (f a b) q)
+  both f w = sym (told-then _ _ _ (λ a q. told-as (expAt d w n s q) (f a)))
 
-  told6 : Told 6
-  unfolding told expAs codeOf fields parts binds1 locks1 binds2
-  told6 = simp on-on (told-then _ _ _ (λ k p. told-then _ _ _ (λ t q. simp add-zero (one (cell at k t) v n q))))
-
-  told7 : Told 7
-  unfolding told expAs codeOf fields parts binds1 locks1 binds2
-  told7 = simp add-zero (one (read at) v n (at + 1))
-
-  told8 : Told 8
-  unfolding told expAs codeOf fields parts binds1 locks1 binds2
-  told8 = simp add-zero (told-then _ _ _ (λ a q. simp add-zero (one (write at a) v n q)))
-
-  told9 : Told 9
-  unfolding told expAs codeOf fields parts binds1 locks1 binds2
-  told9 = simp add-zero (one (fork at) v n (at + 1))
-
-  lock-case : (b : Bool) → told (pick b (expAt d (v + 1) (n + 1) s (at + 1) then λ e p. got (newLock at e) p) (wrong 7 at)) ≡ on (pick b (Next (at + 1)) (Refused 7 at)) (first 10)
-  unfolding told expAs codeOf fields parts binds1 locks1 binds2
-  lock-case true = one (newLock at) (v + 1) (n + 1) (at + 1)
-  lock-case false = refl
-
-  told10 : Told 10
-  unfolding told expAs codeOf fields parts binds1 locks1 binds2
-  told10 = lock-case (ltb n 32)
-
-  told11 : Told 11
-  unfolding told expAs codeOf fields parts binds1 locks1 binds2
-  told11 = simp add-zero (told-then _ _ _ (λ a q. simp add-zero (one (sync at a) v n q)))
-
-  told12 : Told 12
-  unfolding told expAs codeOf fields parts binds1 locks1 binds2
-  told12 = simp add-zero (two (letIn at) (v + 1) (at + 1))
-
-  told13 : Told 13
-  unfolding told expAs codeOf fields parts binds1 locks1 binds2
-  told13 = simp add-zero (told-then _ _ _ (λ a q. simp add-zero (one (seq at a) v n q)))
-
-  told14 : Told 14
-  unfolding told expAs codeOf fields parts binds1 locks1 binds2
-  told14 = simp add-zero (told-then _ _ _ (λ a q. simp add-zero (one (add at a) v n q)))
-
-  told15 : Told 15
-  unfolding told expAs codeOf fields parts binds1 locks1 binds2
-  told15 = told-then _ _ _ (λ t p. simp add-zero (told-then _ _ _ (λ a q. simp add-zero (told-then _ _ _ (λ b r. told-as (expAt d v n s r) (ifNot0 at t a b))))))
-
-  pub walked : (b : ℕ) → (b ≡ 0 → ⊥) → b ≤ 15 → Told b
-  walked b z u = by-code Told b z u told1 told2 told3 told4 told5 told6 told7 told8 told9 told10 told11 told12 told13 told14 told15
+  pub two-with : (b : ℕ) → 0 < b → b ≤ 15 → parts b ≡ 2 → Both (v + binds2 b) ≡ With b
+  unfolding expAs codeOf parts binds2
+  two-with b z u =
+      by-code (λ b. parts b ≡ 2 → Both (v + binds2 b) ≡ With b) b (λ e. omega arith) u
+      (λ e. absurd (omega arith)) (λ e. absurd (omega arith)) (λ e. absurd (omega arith)) (λ e. absurd (omega arith))
+      (λ e. simp add-zero (both (app at) v))
+      (λ e. absurd (omega arith)) (λ e. absurd (omega arith))
+      (λ e. simp add-zero (both (write at) v))
+      (λ e. absurd (omega arith)) (λ e. absurd (omega arith))
+      (λ e. simp add-zero (both (sync at) v))
+      (λ e. both (letIn at) (v + 1))
+      (λ e. simp add-zero (both (seq at) v))
+      (λ e. simp add-zero (both (add at) v))
+      (λ e. absurd (omega arith))
 
 module _ (v n : ℕ) (s : List ℕ) (at : ℕ) where
   pub exp-ended : (d : ℕ) → length s ≤ at → Refused 5 (length s) ≡ told (expAt d v n s at)
@@ -211,37 +182,10 @@ module _ (v n : ℕ) (s : List ℕ) (at : ℕ) where
     unfolding told expAt
     exp-deep d e z u = rw (e, code-in) (ap told (deep (getD s at 0) z u))
 
-    pub exp-walk : (d : ℕ) → (d ≡ 0 → ⊥) → (getD s at 0 ≡ 0 → ⊥) → getD s at 0 ≤ 15 → walk (d - 1) v n s at (getD s at 0) ≡ told (expAt d v n s at)
+    pub exp-with : (d b : ℕ) → 0 < d → getD s at 0 ≡ b → With (d - 1) v n s at b ≡ told (expAt d v n s at)
     unfolding expAt
-    exp-walk zero f z u = absurd (f refl)
-    exp-walk (suc d) f z u = simp (sub-one (suc d), code-in) (sym (walked d v n s at (getD s at 0) z u))
-
-module _ (d v n : ℕ) (s : List ℕ) (at b m : ℕ) (e : m ≡ parts b) where
-  pub first-done : {p : ℕ} → m ≡ 0 → Next p ≡ first d v n s at b p
-  first-done f = rw (← e, f)
-
-  module _ (g : m ≡ 0 → ⊥) {r : Got} {x y : ℕ} (p : ℕ) (ex : x ≡ binds1 b) (ey : y ≡ locks1 b) (er : r ≡ told (expAt d (v + x) (n + y) s p)) where
-    pub first-refused : {k q : ℕ} → r ≡ Refused k q → Refused k q ≡ first d v n s at b p
-    first-refused f = rw (← e, ne-eqb m 0 g, ← ex, ← ey, ← er, f)
-
-    pub first-next : {q : ℕ} {o : Got} → r ≡ Next q → o ≡ second d v n s at b q → o ≡ first d v n s at b p
-    first-next f h = rw (← e, ne-eqb m 0 g, ← ex, ← ey, ← er, f) h
-
-  pub second-done : {q : ℕ} → m ≡ 1 → Next q ≡ second d v n s at b q
-  second-done f = rw (← e, f)
-
-  module _ (g : m ≡ 1 → ⊥) {r : Got} {x : ℕ} (q : ℕ) (ex : x ≡ binds2 b) (er : r ≡ told (expAt d (v + x) n s q)) where
-    pub second-refused : {k p : ℕ} → r ≡ Refused k p → Refused k p ≡ second d v n s at b q
-    second-refused f = rw (← e, ne-eqb m 1 g, ← ex, ← er, f)
-
-    pub second-next : {p : ℕ} {o : Got} → r ≡ Next p → o ≡ third d v n s at b p → o ≡ second d v n s at b q
-    second-next f h = rw (← e, ne-eqb m 1 g, ← ex, ← er, f) h
-
-  pub third-done : {r : ℕ} → m ≡ 2 → Next r ≡ third d v n s at b r
-  third-done f = rw (← e, f)
-
-  pub third-last : (r : ℕ) {o : Got} → (m ≡ 2 → ⊥) → o ≡ told (expAt d v n s r) → o ≡ third d v n s at b r
-  third-last r g h = rw (← e, ne-eqb m 2 g) h
+    exp-with zero b f e = absurd (omega arith)
+    exp-with (suc d) b f e = simp (sub-one (suc d), code-in, e)
 
 -- a new lock's fields are there only below 32 locks
 pub lock-room : (b v n : ℕ) (s : List ℕ) (at : ℕ) {r : Got} {p y : ℕ} → r ≡ fields b v n s at → r ≡ Next p → y ≡ locks1 b → n ≤ 32 → n + y ≤ 32

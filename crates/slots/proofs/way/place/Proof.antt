@@ -23,9 +23,9 @@ onward-requires c κs = search needs
 returns : tie.Need-returns Inv-loop μ-loop
 returns c =
     let at-if1 = c in
-    let at-onward = c .before in
-    let at-loop-test = c .before .before in
-    let at-loop = c .before .before .before in
+    let at-onward = c .before .before in
+    let at-loop-test = c .before .before .before in
+    let at-loop = c .before .before .before .before in
     placing-here (at-loop .loop .inv) (at-loop-test .loop-test .taken) (at-onward .onward .ensures) (at-if1 .if1 .taken)
 
 loop-less : tie.Need-loop-less Inv-loop μ-loop
@@ -34,9 +34,9 @@ loop-less c = search needs
 loop-again : tie.Need-loop-again Inv-loop μ-loop
 loop-again c =
     let at-if1 = c in
-    let at-onward = c .before in
-    let at-loop-test = c .before .before in
-    let at-loop = c .before .before .before in
+    let at-onward = c .before .before in
+    let at-loop-test = c .before .before .before in
+    let at-loop = c .before .before .before .before in
     placing-on (at-loop .loop .inv) (at-loop-test .loop-test .taken) (at-onward .onward .ensures) (at-if1 .if1 .left)
 
 returns-2 : tie.Need-returns-2 Inv-loop μ-loop

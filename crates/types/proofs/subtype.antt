@@ -1,0 +1,5 @@
+pub mod SetBits
+pub mod Bound
+pub mod Laws
+pub mod Says
+pub mod Unique
