@@ -17,6 +17,10 @@ kidTable = 0 ∷ 0 ∷ 0 ∷ 0 ∷ 1 ∷ 2 ∷ 1 ∷ 1 ∷ 2 ∷ 1 ∷ 1 ∷ 2 �
 abbrev pub fieldTable : List ℕ
 fieldTable = 0 ∷ 0 ∷ 4 ∷ 1 ∷ 0 ∷ 0 ∷ 0 ∷ 0 ∷ 0 ∷ 0 ∷ 0 ∷ 0 ∷ 0 ∷ 0 ∷ 0 ∷ 0 ∷ 1 ∷ 1 ∷ 1 ∷ []
 
+-- with the code itself
+abbrev pub widthTable : List ℕ
+widthTable = 1 ∷ 1 ∷ 5 ∷ 2 ∷ 1 ∷ 1 ∷ 1 ∷ 1 ∷ 1 ∷ 1 ∷ 1 ∷ 1 ∷ 1 ∷ 1 ∷ 1 ∷ 1 ∷ 2 ∷ 2 ∷ 2 ∷ []
+
 -- "Function, let (in e2) and new lock (in its body) bind a variable."
 abbrev pub bind1Table : List ℕ
 bind1Table = 0 ∷ 0 ∷ 0 ∷ 0 ∷ 1 ∷ 0 ∷ 0 ∷ 0 ∷ 0 ∷ 0 ∷ 1 ∷ 0 ∷ 0 ∷ 0 ∷ 0 ∷ 0 ∷ 0 ∷ 0 ∷ 0 ∷ []
@@ -160,9 +164,10 @@ module _ (c : ℕ) (h : c ≤ 18) where
   unfolding kidsOf
   packed-kids = row (λ n. pack 2 kidTable / 2 ^ (2 * n) % 4) kidTable tt c (omega arith)
 
-  pub packed-fields : pack 3 fieldTable / 2 ^ (3 * c) % 8 ≡ fieldOf c
+  pub packed-widths : pack 3 widthTable / 2 ^ (3 * c) % 8 ≡ fieldOf c + 1
   unfolding fieldOf
-  packed-fields = row (λ n. pack 3 fieldTable / 2 ^ (3 * n) % 8) fieldTable tt c (omega arith)
+  packed-widths =
+      row (λ n. pack 3 widthTable / 2 ^ (3 * n) % 8) widthTable tt c (omega arith) ∙ sym (row (λ n. getD fieldTable n 0 + 1) widthTable tt c (omega arith))
 
   pub packed-bind1 : pack 1 bind1Table / 2 ^ c % 2 ≡ bind1 c
   unfolding bind1

@@ -161,16 +161,17 @@ module _ {s : List ℕ} {at i need : ℕ} (l : Skipping s at i need) where
     pub skipping-bad : isCode (getD s i 0) ≡ false → Skipped s at 0
     skipping-bad e = answered s at 0 (sym (walk-bad s i need h p e) ∙ l .same)
 
-    module _ (c : isCode (getD s i 0) ≡ true) (w : ℕ) (ew : w ≡ fieldOf (getD s i 0)) where
-      pub skipping-cut : length s ≤ i + w → Skipped s at 0
-      skipping-cut m = answered s at 0 (sym (walk-cut s i need h p c w ew m) ∙ l .same)
+    -- w bytes with the code
+    module _ (c : isCode (getD s i 0) ≡ true) (w : ℕ) (ew : w ≡ fieldOf (getD s i 0) + 1) where
+      pub skipping-cut : length s < i + w → Skipped s at 0
+      skipping-cut m = answered s at 0 (sym (walk-cut s i need h p c (w - 1) (omega arith) (omega arith)) ∙ l .same)
 
-      pub skipping-on : i + w < length s → (k : ℕ) → k ≡ kidsOf (getD s i 0) → Skipping s at (i + w + 1) (need - 1 + k)
+      pub skipping-on : i + w ≤ length s → (k : ℕ) → k ≡ kidsOf (getD s i 0) → Skipping s at (i + w) (need - 1 + k)
       skipping-on m k ek =
           let f = l .few in
           let b = kids≤ (getD s i 0) in
           record {
-            same = ap (λ (n : ℕ). walk (drop (i + w + 1) s) (i + w + 1) (need - 1 + n) 0) ek
-                ∙ sym (walk-code s i need h p c w ew (i + w + 1) refl (omega arith)) ∙ l .same;
+            same = ap (λ (n : ℕ). walk (drop (i + w) s) (i + w) (need - 1 + n) 0) ek
+                ∙ sym (walk-code s i need h p c (w - 1) (omega arith) (i + w) (omega arith) (omega arith)) ∙ l .same;
             few = omega arith;
           }

@@ -1,6 +1,7 @@
 // What each code of the erased form has, by tables of 19 entries packed into one number each, code 00 lowest: a look-up is a shift. A byte that
 // is no code has the tables' default.
 ghost use mathlib.Core.Path.{_≡_};
+ghost use Prim.Native.Nat.{_+_};
 ghost use lib.ListN.{getD};
 ghost use Rattle.slots.specs.Codes.{isCode, kidsOf, fieldOf, bind1, bind2, goes1, goes2, isValue, openOf, Told};
 
@@ -30,15 +31,22 @@ pub(crate) fn kids(c: u8) -> usize
     ((table >> (2 * c)) % 4) as usize
 }
 
-// How many bytes of its own between the code and its parts.
+// How many bytes it takes with those of its own between it and its parts. A walk goes on by this, so it is the one that has the table.
+pub(crate) fn width(c: u8) -> usize
+    ensures { λ r. ⌜ Told (fieldOf c + 1) 5 r ⌝ }
+{
+    if 18 < c {
+        return 1;
+    }
+    let table: u64 = 0b010_010_010_001_001_001_001_001_001_001_001_001_001_001_001_010_101_001_001;
+    ((table >> (3 * c)) % 8) as usize
+}
+
+// How many bytes of its own.
 pub(crate) fn fields(c: u8) -> usize
     ensures { λ r. ⌜ Told (fieldOf c) 4 r ⌝ }
 {
-    if 18 < c {
-        return 0;
-    }
-    let table: u64 = 0b001_001_001_000_000_000_000_000_000_000_000_000_000_000_000_001_100_000_000;
-    ((table >> (3 * c)) % 8) as usize
+    width(c) - 1
 }
 
 // 1 where its first part stands under a binder of it, else 0.

@@ -1,8 +1,8 @@
 // Passing over an expression without memory: how many expressions are due is all there is to know.
 ghost use Rattle.slots.specs.Walk.{Skipped};
-use crate::codes::fields;
 use crate::codes::is_code;
 use crate::codes::kids;
+use crate::codes::width;
 
 // The place after the expression that begins at `at`, 0 where none does.
 pub fn skip(s: &[u8], at: usize) -> usize
@@ -18,12 +18,12 @@ pub fn skip(s: &[u8], at: usize) -> usize
         if !is_code(c) {
             return 0;
         }
-        let w = fields(c);
-        if s.len() - i <= w {
+        let w = width(c);
+        if s.len() - i < w {
             return 0;
         }
         need = need - 1 + kids(c);
-        i = i + w + 1;
+        i += w;
     }
     if 0 < need {
         return 0;

@@ -41,22 +41,22 @@ returns-2 c =
     skipping-bad (at-loop .loop .inv) (at-loop-test .loop-test .taken) (omega arith)
     (sym (at-is-code .is-code .ensures) ∙ not-true _ (at-if2 .if2 .taken))
 
-fields-requires : tie.Need-fields-requires Inv-loop μ-loop
-fields-requires c κs = search needs
+width-requires : tie.Need-width-requires Inv-loop μ-loop
+width-requires c κs = search needs
 
 sub-if3 : tie.Need-sub-if3 Inv-loop μ-loop
 sub-if3 c = search needs
 
 returns-3 : tie.Need-returns-3 Inv-loop μ-loop
 returns-3 c =
-    let at-fields = c .before in
+    let at-width = c .before in
     let at-if2 = c .before .before in
     let at-is-code = c .before .before .before in
     let at-loop-test = c .before .before .before .before .before .before in
     let at-loop = c .before .before .before .before .before .before .before in
     skipping-cut (at-loop .loop .inv) (at-loop-test .loop-test .taken) (omega arith)
-    (sym (at-is-code .is-code .ensures) ∙ not-false _ (at-if2 .if2 .left)) (at-fields .fields .result)
-    (at-fields .fields .ensures .says) (omega arith)
+    (sym (at-is-code .is-code .ensures) ∙ not-false _ (at-if2 .if2 .left)) (at-width .width .result)
+    (at-width .width .ensures .says) (omega arith)
 
 sub-need : tie.Need-sub-need Inv-loop μ-loop
 sub-need c = search needs
@@ -70,23 +70,20 @@ add-need c = search needs
 add-i : tie.Need-add-i Inv-loop μ-loop
 add-i c = search needs
 
-add-i-2 : tie.Need-add-i-2 Inv-loop μ-loop
-add-i-2 c = search needs
-
 loop-less : tie.Need-loop-less Inv-loop μ-loop
 loop-less c = search needs
 
 loop-again : tie.Need-loop-again Inv-loop μ-loop
 loop-again c =
     let at-kids = c in
-    let at-fields = c .before .before in
+    let at-width = c .before .before in
     let at-if2 = c .before .before .before in
     let at-is-code = c .before .before .before .before in
     let at-loop-test = c .before .before .before .before .before .before .before in
     let at-loop = c .before .before .before .before .before .before .before .before in
     skipping-on (at-loop .loop .inv) (at-loop-test .loop-test .taken) (omega arith)
-    (sym (at-is-code .is-code .ensures) ∙ not-false _ (at-if2 .if2 .left)) (at-fields .fields .result)
-    (at-fields .fields .ensures .says) (omega arith) (at-kids .kids .result) (at-kids .kids .ensures .says)
+    (sym (at-is-code .is-code .ensures) ∙ not-false _ (at-if2 .if2 .left)) (at-width .width .result)
+    (at-width .width .ensures .says) (omega arith) (at-kids .kids .result) (at-kids .kids .ensures .says)
 
 returns-4 : tie.Need-returns-4 Inv-loop μ-loop
 returns-4 c =
@@ -111,14 +108,13 @@ skip-spec =
     shared-slice-read-c
     is-code-requires
     returns-2
-    fields-requires
+    width-requires
     sub-if3
     returns-3
     sub-need
     kids-requires
     add-need
     add-i
-    add-i-2
     loop-less
     loop-again
     returns-4
