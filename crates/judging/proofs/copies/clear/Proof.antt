@@ -2,6 +2,7 @@
 use mathlib.Core.Path.{_≡_, sym, ap, _∙_}
 use mathlib.Core.List.{List, _++_}
 use Prim.Native.Nat.{ℕ}
+use native.Mathlib.Omega.{arith}
 use lib.ListN.{drop, replicate}
 use lib.Seq.{length-take-le}
 use borrow.Author.Needs.{needs}
@@ -15,7 +16,7 @@ slice-relend-prefix-clear c = search needs
 slice-aggregate-clear : tie.Need-slice-aggregate-clear
 slice-aggregate-clear c =
     let at-start = c .before .before in
-    sym (length-take-le 40960 (at-start .args .w .now) (at-start .pre))
+    sym (length-take-le _ (at-start .args .w .now) (omega (arith, at-start .pre)))
 
 clear-requires : tie.Need-clear-requires
 clear-requires c κs = search needs
