@@ -1,6 +1,5 @@
 // After the second and third parts: the part's type stands in the slot one deeper, and in the own slot what the first step left.
 use crate::copies;
-use crate::numbers::less;
 use crate::numbers::number;
 use crate::numbers::only;
 use crate::work::Step;
@@ -80,7 +79,7 @@ pub(crate) fn second_sync(
     let to = slot_of(left);
     let k = work[to + 1];
     copies::copy(work, slot_of(left - 1), to);
-    Step::Go(kept | less(need, k))
+    Step::Go(needs::of_section(kept, need, only(k)))
 }
 
 // Both parts are Ints.

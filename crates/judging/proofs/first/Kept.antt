@@ -5,6 +5,7 @@ use Prim.Native.Nat.{ℕ, _+_, _-_, _<_, _≤_}
 use native.Mathlib.Omega.{arith}
 use native.Mathlib.Nat.{add-zero}
 use lib.Pow.{pow-pos}
+use mathlib.Core.Bool.{true, false}
 use lib.Dec.{eqb}
 use lib.ListN.{length, getD, set, length-set}
 use lib.Seq.{getD-set-same}
@@ -176,17 +177,17 @@ module _ {img w : List ℕ} {at n left : ℕ} (O : Some1 img w at n left) where
               rw y (refl, record { there = (omega (arith, length-set w (slot left) 33), getD-set-same w (slot left) 33 0 (omega arith)); within = tt; short = omega arith }, rw l at s);
         }
 
-    pub fork-stop : getD img at 0 ≡ 9 → (need ≡ 0 → ⊥) → First img w w at n left part need (Stop 14 at)
+    pub fork-stop : getD img at 0 ≡ 9 → eqb need 0 ≡ false → First img w w at n left part need (Stop 14 at)
     unfolding after1
     fork-stop e z =
         record {
           kept = kept-refl w (slot left) (slot left + 256);
           says = λ v x G pl t I s.
               let W = read-whole left v n img at x (G .next) (G .reads) in
-              by-fork (λ x. placeOf x ≡ at → StepOut w left n (after1 x t need) (Stop 14 at)) x (W .is .coded ∙ e) (λ p a y. rw (ne-eqb need 0 z, y)) (W .is .place);
+              by-fork (λ x. placeOf x ≡ at → StepOut w left n (after1 x t need) (Stop 14 at)) x (W .is .coded ∙ e) (λ p a y. rw (z, y)) (W .is .place);
         }
 
-    pub fork-first : getD img at 0 ≡ 9 → need ≡ 0 → First img w (set w (slot left) 32) at n left part need (Go 0)
+    pub fork-first : getD img at 0 ≡ 9 → eqb need 0 ≡ true → First img w (set w (slot left) 32) at n left part need (Go 0)
     unfolding after1 tySize
     fork-first e z =
         let F = facts in
@@ -195,6 +196,6 @@ module _ {img w : List ℕ} {at n left : ℕ} (O : Some1 img w at n left) where
           says = λ v x G pl t I s.
               let W = read-whole left v n img at x (G .next) (G .reads) in
               by-fork (λ x. StepOut (set w (slot left) 32) left n (after1 x t need) (Go 0)) x (W .is .coded ∙ e)
-              (λ p a. rw (eq-eqb need 0 z)
+              (λ p a. rw z
               (refl, record { there = (omega (arith, length-set w (slot left) 32), getD-set-same w (slot left) 32 0 (omega arith)); within = tt; short = omega arith }, pow-pos n));
         }
