@@ -5,8 +5,7 @@ use native.Mathlib.Nat.{lt-of-lt-of-le, lt-of-le-of-lt}
 use lib.Pow.{pow-mono, pow-lt}
 use lib.Bits.{bitOr, or-lt}
 use Rattle.paper.specs.Sets.{union, less, single}
-use Rattle.needs.proofs.SetBits.{union-or}
-use Rattle.judging.proofs.SetBits.{less-le}
+use Rattle.judging.proofs.SetBits.{union-or, less-le}
 use Rattle.judging.specs.declared.work.Step.the-variants.{Go}
 
 small : (n a : ℕ) → n ≤ 32 → a < 2 ^ n → a < 2 ^ 32

@@ -69,7 +69,7 @@ pub(crate) fn first_fork(
     requires { ⌜ Some1 (now img) (now work) at locks left × (getD (now img) at 0 ≡ 9) ⌝ }
     ensures { λ r. ⌜ First (now (img .entry)) (now (work .entry)) (now (work .exit)) at locks left part need r ⌝ }
 {
-    if !needs::is_empty(need) {
+    if need != 0 {
         return Step::Stop(14, at);
     }
     work[slot_of(left)] = 32;

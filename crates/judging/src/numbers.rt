@@ -4,6 +4,7 @@ ghost use Prim.Native.Nat.{_+_, _^_, _≤_, _<_};
 ghost use lib.ListN.{length};
 ghost use Rattle.paper.specs.Base.{word32};
 ghost use Rattle.paper.specs.Sets.{single};
+ghost use Rattle.paper.specs.Sets as sets;
 
 fn wide(x: u8) -> u32
     ensures { λ r. ⌜ (r ≡ x) × (r < 256) ⌝ }
@@ -33,4 +34,13 @@ pub(crate) fn only(k: u8) -> u32
     ensures { λ r. ⌜ r ≡ single k ⌝ }
 {
     power(k) as u32
+}
+
+// A need without the lock k: its bit set, and then turned.
+pub(crate) fn less(m: u32, k: u8) -> u32
+    requires { ⌜ k < 32 ⌝ }
+    ensures { λ r. ⌜ r ≡ sets.less m (single k) ⌝ }
+{
+    let bit = only(k);
+    (m | bit) ^ bit
 }

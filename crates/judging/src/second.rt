@@ -1,5 +1,6 @@
 // After the second and third parts: the part's type stands in the slot one deeper, and in the own slot what the first step left.
 use crate::copies;
+use crate::numbers::less;
 use crate::numbers::number;
 use crate::numbers::only;
 use crate::work::Step;
@@ -79,7 +80,7 @@ pub(crate) fn second_sync(
     let to = slot_of(left);
     let k = work[to + 1];
     copies::copy(work, slot_of(left - 1), to);
-    Step::Go(needs::of_section(kept, need, only(k)))
+    Step::Go(kept | less(need, k))
 }
 
 // Both parts are Ints.

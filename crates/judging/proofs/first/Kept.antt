@@ -5,7 +5,6 @@ use Prim.Native.Nat.{ℕ, _+_, _-_, _<_, _≤_}
 use native.Mathlib.Omega.{arith}
 use native.Mathlib.Nat.{add-zero}
 use lib.Pow.{pow-pos}
-use mathlib.Core.Bool.{true, false}
 use lib.Dec.{eqb}
 use lib.ListN.{length, getD, set, length-set}
 use lib.Seq.{getD-set-same}
@@ -88,27 +87,22 @@ kind-lck x t m z = by-sync (λ x. Kinds x t m 34) x z (λ p a b. record { is = g
     go p (ref k c) = refl
     go p (fun c s d) = refl
 
+-- an Int is due of add and of if
+int-due : (m p : ℕ) (u : Ty) → asInt p u (λ _. typed u m) ≡ test (eqb (tcode u) 33) 11 p (typed u m)
+unfolding asInt
+int-due m p unit = refl
+int-due m p int = refl
+int-due m p (lock k) = refl
+int-due m p (ref k c) = refl
+int-due m p (fun c s d) = refl
+
 kind-int : (x : Exp) (t : Ty) (m : ℕ) → codeNum x ≡ 14 → Kinds x t m 33
-unfolding after1 asInt
-kind-int x t m z = by-add (λ x. Kinds x t m 33) x z (λ p a b. record { is = go (placeOf a) t; flat = λ f. omega arith })
-  where
-    go : (p : ℕ) (u : Ty) → asInt p u (λ _. typed u m) ≡ test (eqb (tcode u) 33) 11 p (typed u m)
-    go p unit = refl
-    go p int = refl
-    go p (lock k) = refl
-    go p (ref k c) = refl
-    go p (fun c s d) = refl
+unfolding after1
+kind-int x t m z = by-add (λ x. Kinds x t m 33) x z (λ p a b. record { is = int-due m (placeOf a) t; flat = λ f. omega arith })
 
 kind-cnd : (x : Exp) (t : Ty) (m : ℕ) → codeNum x ≡ 15 → Kinds x t m 33
-unfolding after1 asInt
-kind-cnd x t m z = by-ifNot0 (λ x. Kinds x t m 33) x z (λ p t₁ a b c. record { is = go (placeOf a) t; flat = λ f. omega arith })
-  where
-    go : (p : ℕ) (u : Ty) → asInt p u (λ _. typed u m) ≡ test (eqb (tcode u) 33) 11 p (typed u m)
-    go p unit = refl
-    go p int = refl
-    go p (lock k) = refl
-    go p (ref k c) = refl
-    go p (fun c s d) = refl
+unfolding after1
+kind-cnd x t m z = by-ifNot0 (λ x. Kinds x t m 33) x z (λ p t₁ a b c. record { is = int-due m (placeOf a) t; flat = λ f. omega arith })
 
 kinds : (b k : ℕ) → Due b k → (x : Exp) (t : Ty) (m : ℕ) → codeNum x ≡ b → Kinds x t m k
 kinds b k (due5 p q) x t m z = rw q (kind-fun x t m (z ∙ p))
@@ -177,17 +171,17 @@ module _ {img w : List ℕ} {at n left : ℕ} (O : Some1 img w at n left) where
               rw y (refl, record { there = (omega (arith, length-set w (slot left) 33), getD-set-same w (slot left) 33 0 (omega arith)); within = tt; short = omega arith }, rw l at s);
         }
 
-    pub fork-stop : getD img at 0 ≡ 9 → eqb need 0 ≡ false → First img w w at n left part need (Stop 14 at)
+    pub fork-stop : getD img at 0 ≡ 9 → (need ≡ 0 → ⊥) → First img w w at n left part need (Stop 14 at)
     unfolding after1
     fork-stop e z =
         record {
           kept = kept-refl w (slot left) (slot left + 256);
           says = λ v x G pl t I s.
               let W = read-whole left v n img at x (G .next) (G .reads) in
-              by-fork (λ x. placeOf x ≡ at → StepOut w left n (after1 x t need) (Stop 14 at)) x (W .is .coded ∙ e) (λ p a y. rw (z, y)) (W .is .place);
+              by-fork (λ x. placeOf x ≡ at → StepOut w left n (after1 x t need) (Stop 14 at)) x (W .is .coded ∙ e) (λ p a y. rw (ne-eqb need 0 z, y)) (W .is .place);
         }
 
-    pub fork-first : getD img at 0 ≡ 9 → eqb need 0 ≡ true → First img w (set w (slot left) 32) at n left part need (Go 0)
+    pub fork-first : getD img at 0 ≡ 9 → need ≡ 0 → First img w (set w (slot left) 32) at n left part need (Go 0)
     unfolding after1 tySize
     fork-first e z =
         let F = facts in
@@ -196,6 +190,6 @@ module _ {img w : List ℕ} {at n left : ℕ} (O : Some1 img w at n left) where
           says = λ v x G pl t I s.
               let W = read-whole left v n img at x (G .next) (G .reads) in
               by-fork (λ x. StepOut (set w (slot left) 32) left n (after1 x t need) (Go 0)) x (W .is .coded ∙ e)
-              (λ p a. rw z
+              (λ p a. rw (eq-eqb need 0 z)
               (refl, record { there = (omega (arith, length-set w (slot left) 32), getD-set-same w (slot left) 32 0 (omega arith)); within = tt; short = omega arith }, pow-pos n));
         }

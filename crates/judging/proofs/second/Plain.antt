@@ -1,5 +1,5 @@
 -- The steps after the second part of a section and of an addition.
-use mathlib.Core.Path.{_≡_, refl, sym, _∙_, subst}
+use mathlib.Core.Path.{_≡_, refl, _∙_, subst}
 use mathlib.Core.List.{List}
 use Prim.Native.Nat.{ℕ, _+_, _-_, _^_, _<_, _≤_}
 use native.Mathlib.Omega.{arith}
@@ -72,7 +72,7 @@ module _ {img w : List ℕ} {at n left : ℕ} (O : Some2 img w at n left) where
       go k (is-lock a) I = omega (arith, I .there .1 .1, I .within, O .2 .few)
 
   module _ {part m need : ℕ} where
-    pub sync-second : (w′ : List ℕ) → getD img at 0 ≡ 11 → Moved w w′ (slot (left - 1)) (slot left) → Second img w w′ at n left part m need (Go (union m (less need (single (getD w (slot left + 1) 0)))))
+    pub sync-second : (w′ : List ℕ) → getD img at 0 ≡ 11 → Moved w w′ (slot (left - 1)) (slot left) → Second img w w′ at n left part m need (Go (bitOr m (less need (single (getD w (slot left + 1) 0)))))
     unfolding after2 asLock
     sync-second w′ e c =
         let F = facts in
@@ -81,12 +81,12 @@ module _ {img w : List ℕ} {at n left : ℕ} (O : Some2 img w at n left) where
           says = λ v x G pl k K I sm u J su. go v x G k (kept-lock x k m (coded v x G ∙ e) K) I sm u J su;
         }
       where
-        go : (v : ℕ) (x : Exp) → Given img w at v n left x → (k : Ty) → IsLock k → InSlot w left n k → m < 2 ^ n → (u : Ty) → InSlot w (left - 1) n u → need < 2 ^ n → StepOut w′ left n (after2 x k m u need) (Go (union m (less need (single (getD w (slot left + 1) 0)))))
+        go : (v : ℕ) (x : Exp) → Given img w at v n left x → (k : Ty) → IsLock k → InSlot w left n k → m < 2 ^ n → (u : Ty) → InSlot w (left - 1) n u → need < 2 ^ n → StepOut w′ left n (after2 x k m u need) (Go (bitOr m (less need (single (getD w (slot left + 1) 0)))))
         go v x G k (is-lock a) I sm u J su =
             let F = facts in
             let z : getD w (slot left + 1) 0 ≡ a = I .there .1 .1 in
-            by-sync (λ x. StepOut w′ left n (after2 x (lock a) m u need) (Go (union m (less need (single (getD w (slot left + 1) 0)))))) x (coded v x G ∙ e)
-            (λ p₀ a₀ c₀. let sl = less-small n need (single a) (G .few) su in rw z (refl, slot-moved w w′ left n u c J, subst (λ (y : ℕ). y < 2 ^ n) (sym (two-needs n m (less need (single a)) (G .few) sm sl)) (or-lt n m (less need (single a)) sm sl)))
+            by-sync (λ x. StepOut w′ left n (after2 x (lock a) m u need) (Go (bitOr m (less need (single (getD w (slot left + 1) 0)))))) x (coded v x G ∙ e)
+            (λ p₀ a₀ c₀. let sl = less-small n need (single a) (G .few) su in rw z (gone n (bitOr m (less need (single a))) (union m (less need (single a))) (InSlot w′ left n u) (two-needs n m (less need (single a)) (G .few) sm sl) (or-lt n m (less need (single a)) sm sl) (slot-moved w w′ left n u c J)))
 
     pub add-stop : getD img at 0 ≡ 14 → (getD w (slot (left - 1)) 0 ≡ 33 → ⊥) → Second img w w at n left part m need (Stop 11 part)
     unfolding after2

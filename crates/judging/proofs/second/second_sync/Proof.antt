@@ -28,27 +28,23 @@ copy-requires c κs =
     let at-start = c .before .before .before .before .before .before in
     rw (at-slot-of .slot-of .ensures, at-slot-of2 .slot-of2 .ensures) (part-movable (at-start .pre .0))
 
-only-requires : tie.Need-only-requires
-only-requires c κs =
+less-requires : tie.Need-less-requires
+less-requires c κs =
     let at-slot-of = c .before .before .before .before .before .before in
     let at-start = c .before .before .before .before .before .before .before .before .before in
     rw (at-slot-of .slot-of .ensures) (sync-name (at-start .pre .0) (at-start .pre .1))
-
-of-section-requires : tie.Need-of-section-requires
-of-section-requires c κs = search needs
 
 same-length : tie.Need-same-length
 same-length c = search needs
 
 returns : tie.Need-returns
 returns c =
-    let at-of-section = c in
-    let at-only = c .before in
-    let at-copy = c .before .before .before .before in
-    let at-slot-of2 = c .before .before .before .before .before in
-    let at-slot-of = c .before .before .before .before .before .before .before .before in
-    let at-start = c .before .before .before .before .before .before .before .before .before .before .before in
-    rw (at-of-section .of-section .ensures, at-only .only .ensures, at-slot-of .slot-of .ensures) (sync-second (at-start .pre .0) _ (at-start .pre .1) (rw (at-slot-of2 .slot-of2 .ensures, at-slot-of .slot-of .ensures) at (at-copy .copy .ensures)))
+    let at-less = c in
+    let at-copy = c .before .before .before in
+    let at-slot-of2 = c .before .before .before .before in
+    let at-slot-of = c .before .before .before .before .before .before .before in
+    let at-start = c .before .before .before .before .before .before .before .before .before .before in
+    rw (at-less .less .ensures, at-slot-of .slot-of .ensures) (sync-second (at-start .pre .0) _ (at-start .pre .1) (rw (at-slot-of2 .slot-of2 .ensures, at-slot-of .slot-of .ensures) at (at-copy .copy .ensures)))
 
 pub second-sync-spec : {M : Type 1} → statement M
 second-sync-spec =
@@ -60,7 +56,6 @@ second-sync-spec =
     sub-slot-of
     slot-of-requires-2
     copy-requires
-    only-requires
-    of-section-requires
+    less-requires
     same-length
     returns)
