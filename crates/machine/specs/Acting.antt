@@ -3,7 +3,7 @@ use mathlib.Core.Path.{_≡_, refl, sym, _∙_}
 use mathlib.Core.Bool.{true, false, true≢false}
 use mathlib.Core.List.{List}
 use mathlib.Core.Option.{some}
-use Prim.Native.Nat.{ℕ, _+_, _<_}
+use Prim.Native.Nat.{ℕ, _<_}
 use native.Mathlib.Omega.{arith}
 use lib.ListN.{length, getD}
 use borrow.Author.Tests.{ltb-true}
@@ -36,18 +36,10 @@ use Rattle.machine.specs.Doing.{by-yes}
 abbrev pub cardOf : Limits → Card
 cardOf k = record { threads = k .threads; threadBytes = k .«thread_bytes»; cells = k .cells; cellBytes = k .«cell_bytes»; locks = k .locks }
 
--- for the term that stands there, and any state that the buffer holds, the answer means its move
-pub record Acts (card : Card) (s : List ℕ) (p q : ℕ) (state : List ℕ) (room : ℕ) (out : List ℕ) (r : Act) : Type 0 where
-  pub does : (S : State) → Holds card state S → (x : Term) → Part s p q x → ready x ≡ true → value x ≡ false
-      → placed (length (S .cells)) (length (S .marks)) x ≡ true → Means card S s p q room out r (move card S x)
-
--- no code of one part
-pub record Several (c : ℕ) : Type 0 where
-  pub no-cell : c ≡ 6 → ⊥
-  pub no-read : c ≡ 7 → ⊥
-  pub no-fork : c ≡ 9 → ⊥
-  pub no-lock : c ≡ 10 → ⊥
-  pub no-section : c ≡ 18 → ⊥
+-- for the term whose bytes they are, and any state that the buffer holds, the answer means its move
+pub record Acts (card : Card) (s state : List ℕ) (room : ℕ) (out : List ℕ) (r : Act) : Type 0 where
+  pub does : (S : State) → Holds card state S → (x : Term) → Part s 0 (length s) x → ready x ≡ true → value x ≡ false
+      → placed (length (S .cells)) (length (S .marks)) x ≡ true → Means card S s room out r (move card S x)
 
 -- ---- the cell or lock that a value is
 
@@ -71,83 +63,83 @@ module _ (cells locks : ℕ) where
 -- ---- one law for each code
 
 -- by the construct that the code tells
-abbrev Case : (card : Card) (s : List ℕ) (p q : ℕ) (state : List ℕ) (room : ℕ) (out : List ℕ) (r : Act) (c : ℕ) → Type 0
-Case card s p q state room out r c = (S : State) → Holds card state S → (x : Term) → Coded c x → Part s p q x → ready x ≡ true → value x ≡ false
-    → placed (length (S .cells)) (length (S .marks)) x ≡ true → Means card S s p q room out r (move card S x)
+abbrev Case : (card : Card) (s state : List ℕ) (room : ℕ) (out : List ℕ) (r : Act) (c : ℕ) → Type 0
+Case card s state room out r c = (S : State) → Holds card state S → (x : Term) → Coded c x → Part s 0 (length s) x → ready x ≡ true → value x ≡ false
+    → placed (length (S .cells)) (length (S .marks)) x ≡ true → Means card S s room out r (move card S x)
 
-module _ {card : Card} {s : List ℕ} {p q : ℕ} {state : List ℕ} {room : ℕ} {out : List ℕ} {r : Act} where
-  by-code : (c : ℕ) → getD s p 0 ≡ c → Case card s p q state room out r c → Acts card s p q state room out r
+module _ {card : Card} {s state : List ℕ} {room : ℕ} {out : List ℕ} {r : Act} where
+  by-code : (c : ℕ) → getD s 0 0 ≡ c → Case card s state room out r c → Acts card s state room out r
   by-code c e f = record { does = λ S h x t y v w. f S h x (coded-by c x (sym (part-first t) ∙ e)) t y v w }
 
   module _ (fits : Fits card) where
-    pub acts-fork : {count : ℕ} → getD s p 0 ≡ 9 → count ≡ at state 3 → Forked s p (p + 1) q count (card .threads) room out r
-        → Acts card s p q state room out r
+    pub acts-fork : {count : ℕ} → getD s 0 0 ≡ 9 → count ≡ at state 3 → Forked s count (card .threads) room out r
+        → Acts card s state room out r
     unfolding move termBytes
     acts-fork {count} e n d = by-code 9 e go
       where
-        go : Case card s p q state room out r 9
+        go : Case card s state room out r 9
         go S h x (is-fork a) t y v w = d .does card S a (one-part 9 x t a refl) (sym (threads-read card fits state S h) ∙ sym n) refl
 
-    pub acts-newlock : {count : ℕ} → getD s p 0 ≡ 10 → count ≡ at state 5 → LockMade s p (p + 1) q count (card .locks) room out r
-        → Acts card s p q state room out r
+    pub acts-newlock : {count : ℕ} → getD s 0 0 ≡ 10 → count ≡ at state 5 → LockMade s count (card .locks) room out r
+        → Acts card s state room out r
     unfolding move termBytes
     acts-newlock {count} e n d = by-code 10 e go
       where
-        go : Case card s p q state room out r 10
+        go : Case card s state room out r 10
         go S h x (is-newlock a) t y v w = d .does card S a (one-part 10 x t a refl) (sym (locks-read card fits state S h) ∙ sym n) refl
 
-    pub acts-cell : {count : ℕ} → getD s p 0 ≡ 6 → count ≡ at state 4
-        → CellMade s p (p + 1) q count (card .cells) (card .cellBytes) room out r → Acts card s p q state room out r
+    pub acts-cell : {count : ℕ} → getD s 0 0 ≡ 6 → count ≡ at state 4
+        → CellMade s count (card .cells) (card .cellBytes) room out r → Acts card s state room out r
     unfolding move ready termBytes
     acts-cell {count} e n d = by-code 6 e go
       where
-        go : Case card s p q state room out r 6
+        go : Case card s state room out r 6
         go S h x (is-cell a) t y v w =
             by-yes (value a) _ _ y (d .does card S a (one-part 6 x t a refl) (sym (cells-read card fits state S h) ∙ sym n) refl refl)
 
-    pub acts-read : getD s p 0 ≡ 7 → CellRead s p (p + 1) q state (cellsFrom card) (card .cellBytes) room out r → Acts card s p q state room out r
+    pub acts-read : getD s 0 0 ≡ 7 → CellRead s state (cellsFrom card) (card .cellBytes) room out r → Acts card s state room out r
     unfolding move ready termBytes placed
     acts-read e d = by-code 7 e go
       where
-        go : Case card s p q state room out r 7
+        go : Case card s state room out r 7
         go S h x (is-read a) t y v w =
             by-yes (value a) _ _ y
             (d .does card S a (one-part 7 x t a refl) (λ j z. cell-read card fits state S h j (cell-below (length (S .cells)) (length (S .marks)) (is-value a y) z w)))
 
-    pub acts-release : getD s p 0 ≡ 18 → LockReleased s p (p + 2) q room out r → Acts card s p q state room out r
+    pub acts-release : getD s 0 0 ≡ 18 → LockReleased s room out r → Acts card s state room out r
     unfolding move ready
     acts-release e d = by-code 18 e go
       where
-        go : Case card s p q state room out r 18
+        go : Case card s state room out r 18
         go S h x (is-inside l a) t y v w = by-yes (value a) _ _ y (d .does card S l a (section-part t) (section-lock t))
 
     -- two parts, the second from g on
-    module _ {g : ℕ} (f : g ≡ skipOf s (p + 1)) where
-      pub acts-app : getD s p 0 ≡ 5 → Applied s p (p + 1) g q room out r → Acts card s p q state room out r
+    module _ {g : ℕ} (f : g ≡ skipOf s 1) where
+      pub acts-app : getD s 0 0 ≡ 5 → Applied s g room out r → Acts card s state room out r
       unfolding move ready termBytes
       acts-app e d = by-code 5 e go
         where
-          go : Case card s p q state room out r 5
+          go : Case card s state room out r 5
           go S h x (is-app a b) t y v w =
               let u = split (value a) (value b) y in
               let z = two-parts 5 x t f a b refl in
               by-yes (value a) _ _ (u .0) (by-yes (value b) _ _ (u .1) (d .does card S a b (z .0) (z .1)))
 
-      pub acts-write : getD s p 0 ≡ 8 → CellWritten s p (p + 1) g q (card .cellBytes) room out r → Acts card s p q state room out r
+      pub acts-write : getD s 0 0 ≡ 8 → CellWritten s g (card .cellBytes) room out r → Acts card s state room out r
       unfolding move ready termBytes
       acts-write e d = by-code 8 e go
         where
-          go : Case card s p q state room out r 8
+          go : Case card s state room out r 8
           go S h x (is-write a b) t y v w =
               let u = split (value a) (value b) y in
               let z = two-parts 8 x t f a b refl in
               by-yes (value a) _ _ (u .0) (by-yes (value b) _ _ (u .1) (d .does card S a b (z .0) (z .1) refl))
 
-      pub acts-sync : getD s p 0 ≡ 11 → LockTaken s p (p + 1) g q state room out r → Acts card s p q state room out r
+      pub acts-sync : getD s 0 0 ≡ 11 → LockTaken s g state room out r → Acts card s state room out r
       unfolding move ready termBytes placed
       acts-sync e d = by-code 11 e go
         where
-          go : Case card s p q state room out r 11
+          go : Case card s state room out r 11
           go S h x (is-sync a b) t y v w =
               let z = two-parts 11 x t f a b refl in
               let u = split (placed (length (S .cells)) (length (S .marks)) a) _ w in
@@ -157,74 +149,78 @@ module _ {card : Card} {s : List ℕ} {p q : ℕ} {state : List ℕ} {room : ℕ
               (d .does card S a b (z .0) (z .1)
               (λ l k. let n = lock-below (length (S .cells)) (length (S .marks)) (is-value a y) k (u .0) in mark-read card fits state S h l (omega arith)))
 
-      pub acts-bind : getD s p 0 ≡ 12 → LetBound s p (p + 1) g q room out r → Acts card s p q state room out r
+      pub acts-bind : getD s 0 0 ≡ 12 → LetBound s g room out r → Acts card s state room out r
       unfolding move ready termBytes
       acts-bind e d = by-code 12 e go
         where
-          go : Case card s p q state room out r 12
+          go : Case card s state room out r 12
           go S h x (is-bind a b) t y v w =
               let z = two-parts 12 x t f a b refl in by-yes (value a) _ _ y (d .does card S a b (z .0) (z .1))
 
-      pub acts-seq : getD s p 0 ≡ 13 → WentOn s p g q room out r → Acts card s p q state room out r
+      pub acts-seq : getD s 0 0 ≡ 13 → WentOn s g room out r → Acts card s state room out r
       unfolding move ready termBytes
       acts-seq e d = by-code 13 e go
         where
-          go : Case card s p q state room out r 13
+          go : Case card s state room out r 13
           go S h x (is-seq a b) t y v w = by-yes (value a) _ _ y (d .does card S b (two-parts 13 x t f a b refl .1))
 
-      pub acts-add : getD s p 0 ≡ 14 → Added s p (p + 1) g q room out r → Acts card s p q state room out r
+      pub acts-add : getD s 0 0 ≡ 14 → Added s g room out r → Acts card s state room out r
       unfolding move ready termBytes
       acts-add e d = by-code 14 e go
         where
-          go : Case card s p q state room out r 14
+          go : Case card s state room out r 14
           go S h x (is-add a b) t y v w =
               let u = split (value a) (value b) y in
               let z = two-parts 14 x t f a b refl in
               let n = placed-small (length (S .cells)) (length (S .marks)) x w in
               by-yes (value a) _ _ (u .0) (by-yes (value b) _ _ (u .1) (d .does card S a b (z .0) (z .1) (n .0) (n .1)))
 
-      pub acts-cond : {k : ℕ} → getD s p 0 ≡ 15 → k ≡ skipOf s g → Branched s p (p + 1) g k q room out r → Acts card s p q state room out r
+      pub acts-cond : {k : ℕ} → getD s 0 0 ≡ 15 → k ≡ skipOf s g → Branched s g k room out r → Acts card s state room out r
       unfolding move ready termBytes
       acts-cond {k} e o d = by-code 15 e go
         where
-          go : Case card s p q state room out r 15
+          go : Case card s state room out r 15
           go S h x (is-cond a b i) t y v w =
               let z = three-parts 15 x t f o a b i refl in
               let n = placed-small (length (S .cells)) (length (S .marks)) x w in
               by-yes (value a) _ _ y (d .does card S a b i (z .0) (z .1) (z .2) (n .0))
 
--- no code of two parts or three
-pub record Few (c : ℕ) : Type 0 where
+-- no code of a construct that makes a step
+pub record Other (c : ℕ) : Type 0 where
   pub no-app : c ≡ 5 → ⊥
+  pub no-cell : c ≡ 6 → ⊥
+  pub no-read : c ≡ 7 → ⊥
   pub no-write : c ≡ 8 → ⊥
+  pub no-fork : c ≡ 9 → ⊥
+  pub no-lock : c ≡ 10 → ⊥
   pub no-sync : c ≡ 11 → ⊥
   pub no-bind : c ≡ 12 → ⊥
   pub no-seq : c ≡ 13 → ⊥
   pub no-add : c ≡ 14 → ⊥
   pub no-cond : c ≡ 15 → ⊥
+  pub no-section : c ≡ 18 → ⊥
 
 -- what has no part that is evaluated, and is no value, is a variable: it is stuck
-pub acts-else : {card : Card} {s : List ℕ} {p q : ℕ} {state : List ℕ} {room : ℕ} {out : List ℕ} → Several (getD s p 0) → Few (getD s p 0)
-    → Acts card s p q state room out Stuck
+pub acts-else : {card : Card} {s state : List ℕ} {room : ℕ} {out : List ℕ} → Other (getD s 0 0) → Acts card s state room out Stuck
 unfolding move value
-acts-else {card} {s} {p} {q} {state} {room} {out} m n = record { does = λ S h x t y v w. go S (coded-by (getD s p 0) x (sym (part-first t))) m n v }
+acts-else {card} {s} {state} {room} {out} n = record { does = λ S h x t y v w. go S (coded-by (getD s 0 0) x (sym (part-first t))) n v }
   where
-    go : (S : State) {c : ℕ} {x : Term} → Coded c x → Several c → Few c → value x ≡ false → Means card S s p q room out Stuck (move card S x)
-    go S is-unit m n v = absurd (true≢false v)
-    go S (is-num k) m n v = absurd (true≢false v)
-    go S (is-var k) m n v = is-stuck
-    go S (is-fun a) m n v = absurd (true≢false v)
-    go S (is-app a b) m n v = absurd (n .no-app refl)
-    go S (is-cell a) m n v = absurd (m .no-cell refl)
-    go S (is-read a) m n v = absurd (m .no-read refl)
-    go S (is-write a b) m n v = absurd (n .no-write refl)
-    go S (is-fork a) m n v = absurd (m .no-fork refl)
-    go S (is-newlock a) m n v = absurd (m .no-lock refl)
-    go S (is-sync a b) m n v = absurd (n .no-sync refl)
-    go S (is-bind a b) m n v = absurd (n .no-bind refl)
-    go S (is-seq a b) m n v = absurd (n .no-seq refl)
-    go S (is-add a b) m n v = absurd (n .no-add refl)
-    go S (is-cond a b e) m n v = absurd (n .no-cond refl)
-    go S (is-lockAt k) m n v = absurd (true≢false v)
-    go S (is-cellAt k) m n v = absurd (true≢false v)
-    go S (is-inside k a) m n v = absurd (m .no-section refl)
+    go : (S : State) {c : ℕ} {x : Term} → Coded c x → Other c → value x ≡ false → Means card S s room out Stuck (move card S x)
+    go S is-unit n v = absurd (true≢false v)
+    go S (is-num k) n v = absurd (true≢false v)
+    go S (is-var k) n v = is-stuck
+    go S (is-fun a) n v = absurd (true≢false v)
+    go S (is-app a b) n v = absurd (n .no-app refl)
+    go S (is-cell a) n v = absurd (n .no-cell refl)
+    go S (is-read a) n v = absurd (n .no-read refl)
+    go S (is-write a b) n v = absurd (n .no-write refl)
+    go S (is-fork a) n v = absurd (n .no-fork refl)
+    go S (is-newlock a) n v = absurd (n .no-lock refl)
+    go S (is-sync a b) n v = absurd (n .no-sync refl)
+    go S (is-bind a b) n v = absurd (n .no-bind refl)
+    go S (is-seq a b) n v = absurd (n .no-seq refl)
+    go S (is-add a b) n v = absurd (n .no-add refl)
+    go S (is-cond a b e) n v = absurd (n .no-cond refl)
+    go S (is-lockAt k) n v = absurd (true≢false v)
+    go S (is-cellAt k) n v = absurd (true≢false v)
+    go S (is-inside k a) n v = absurd (n .no-section refl)

@@ -65,28 +65,28 @@ module _ {card : Card} {state s : List ℕ} {also : Also} (fits : Fits card) (w 
   sound : Sound card (w .held)
   sound = good-sound card (w .held) (w .holds .state)
 
-  pub new-cell-cut : {a b : ℕ} → also ≡ NewCell a b → Cut s a b
-  new-cell-cut {a} {b} e = go (said e)
+  pub new-cell-cut : also ≡ NewCell → Cut s 1 (length s)
+  new-cell-cut e = go (said e)
     where
-      go : {c : Change} → Changes card (w .held) s (NewCell a b) c → Cut s a b
+      go : {c : Change} → Changes card (w .held) s NewCell c → Cut s 1 (length s)
       go (is-new-cell r k x) = part-cut x
 
-  pub new-cell-few : {a b : ℕ} → also ≡ NewCell a b → at state 4 < 255
-  new-cell-few {a} {b} e = go (said e)
+  pub new-cell-few : also ≡ NewCell → at state 4 < 255
+  new-cell-few e = go (said e)
     where
-      go : {c : Change} → Changes card (w .held) s (NewCell a b) c → at state 4 < 255
+      go : {c : Change} → Changes card (w .held) s NewCell c → at state 4 < 255
       go (is-new-cell r k x) = omega (arith, cells-read card fits state (w .held) (w .holds), fits .cells)
 
-  pub set-cell-cut : {j a b : ℕ} → also ≡ SetCell j a b → Cut s a b
-  set-cell-cut {j} {a} {b} e = go (said e)
+  pub set-cell-cut : {j a : ℕ} → also ≡ SetCell j a → Cut s a (length s)
+  set-cell-cut {j} {a} e = go (said e)
     where
-      go : {c : Change} → Changes card (w .held) s (SetCell j a b) c → Cut s a b
+      go : {c : Change} → Changes card (w .held) s (SetCell j a) c → Cut s a (length s)
       go (is-set-cell k x) = part-cut x
 
-  pub set-cell-low : {j a b : ℕ} → also ≡ SetCell j a b → j < 256
-  set-cell-low {j} {a} {b} e = go (said e) (w .named)
+  pub set-cell-low : {j a : ℕ} → also ≡ SetCell j a → j < 256
+  set-cell-low {j} {a} e = go (said e) (w .named)
     where
-      go : {c : Change} → Changes card (w .held) s (SetCell j a b) c → Named (w .held) c → j < 256
+      go : {c : Change} → Changes card (w .held) s (SetCell j a) c → Named (w .held) c → j < 256
       go (is-set-cell k x) n = omega (arith, n, sound .cells, fits .cells)
 
   pub new-lock-few : also ≡ NewLock → at state 5 < 255
@@ -107,16 +107,16 @@ module _ {card : Card} {state s : List ℕ} {also : Also} (fits : Fits card) (w 
       go : {c : Change} → Changes card (w .held) s (Released l) c → Named (w .held) c → l < 256
       go is-released n = omega (arith, n, sound .marks, fits .locks)
 
-  pub new-thread-cut : {i a b : ℕ} → also ≡ NewThread i a b → Cut s a b
-  new-thread-cut {i} {a} {b} e = go (said e)
+  pub new-thread-cut : {i : ℕ} → also ≡ NewThread i → Cut s 1 (length s)
+  new-thread-cut {i} e = go (said e)
     where
-      go : {c : Change} → Changes card (w .held) s (NewThread i a b) c → Cut s a b
+      go : {c : Change} → Changes card (w .held) s (NewThread i) c → Cut s 1 (length s)
       go (is-new-thread r x) = part-cut x
 
-  pub new-thread-few : {i a b : ℕ} → also ≡ NewThread i a b → i < 255
-  new-thread-few {i} {a} {b} e = go (said e)
+  pub new-thread-few : {i : ℕ} → also ≡ NewThread i → i < 255
+  new-thread-few {i} e = go (said e)
     where
-      go : {c : Change} → Changes card (w .held) s (NewThread i a b) c → i < 255
+      go : {c : Change} → Changes card (w .held) s (NewThread i) c → i < 255
       go (is-new-thread r x) = omega (arith, fits .threads)
 
 -- ---- the stores
@@ -131,10 +131,10 @@ alters-nothing {card} {s} {before} = record { does = λ S h c m n l. go S m }
     go S is-nothing = refl
 
 module _ {card : Card} {s before after : List ℕ} (fits : Fits card) where
-  pub alters-new-cell : {a b : ℕ} → CellAdded card (at before 4) (piece s a b) before after → Alters card s (NewCell a b) before after
-  alters-new-cell {a} {b} w = record { does = λ S h c m n l. go S h m }
+  pub alters-new-cell : CellAdded card (at before 4) (piece s 1 (length s)) before after → Alters card s NewCell before after
+  alters-new-cell w = record { does = λ S h c m n l. go S h m }
     where
-      go : (S : State) → Holds card before S → {c : Change} → Changes card S s (NewCell a b) c → Else card S c before after
+      go : (S : State) → Holds card before S → {c : Change} → Changes card S s NewCell c → Else card S c before after
       go S h (is-new-cell {v = v} r k x) =
           let e = cells-read card fits before S h in
           let long = holds-long card fits before S h in
@@ -147,11 +147,10 @@ module _ {card : Card} {s before after : List ℕ} (fits : Fits card) where
                 (subst (λ j. Puts 4 j (w .between) after) (add-one (at before 4) ∙ ap suc e) (w .counted)),
           )
 
-  pub alters-set-cell : {j a b : ℕ} → CellPut card j (piece s a b) before after
-      → Alters card s (SetCell j a b) before after
-  alters-set-cell {j} {a} {b} w = record { does = λ S h c m n l. go S h m n }
+  pub alters-set-cell : {j a : ℕ} → CellPut card j (piece s a (length s)) before after → Alters card s (SetCell j a) before after
+  alters-set-cell {j} {a} w = record { does = λ S h c m n l. go S h m n }
     where
-      go : (S : State) → Holds card before S → {c : Change} → Changes card S s (SetCell j a b) c → Named S c → Else card S c before after
+      go : (S : State) → Holds card before S → {c : Change} → Changes card S s (SetCell j a) c → Named S c → Else card S c before after
       go S h (is-set-cell {v = v} k x) n =
           let q = good-sound card S (h .state) .cells in
           cell-stored card fits (holds-long card fits before S h) j v (omega (arith, n)) k
@@ -181,10 +180,10 @@ module _ {card : Card} {s before after : List ℕ} (fits : Fits card) where
           let q = good-sound card S (h .state) .marks in
           byte-put card fits (holds-long card fits before S h) (omega (arith, n, fits .locks)) w
 
-  pub alters-new-thread : {i a b : ℕ} → ThreadAdded card i (piece s a b) before after → Alters card s (NewThread i a b) before after
-  alters-new-thread {i} {a} {b} w = record { does = λ S h c m n l. go S h m l }
+  pub alters-new-thread : {i : ℕ} → ThreadAdded card i (piece s 1 (length s)) before after → Alters card s (NewThread i) before after
+  alters-new-thread {i} w = record { does = λ S h c m n l. go S h m l }
     where
-      go : (S : State) → Holds card before S → {c : Change} → Changes card S s (NewThread i a b) c → length s ≤ card .threadBytes
+      go : (S : State) → Holds card before S → {c : Change} → Changes card S s (NewThread i) c → length s ≤ card .threadBytes
           → Else card S c before after
       go S h (is-new-thread {v = v} r x) l =
           let k = part-cut x in

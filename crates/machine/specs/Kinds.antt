@@ -11,55 +11,51 @@ use Rattle.paper.specs.States.{Card, State}
 use Rattle.paper.specs.Steps.{nothing, released, goes, applies, makesCell, reads, writes, forks, makesLock, takes, adds, branches}
 use Rattle.laws.specs.TermBytes.{Numbers}
 use Rattle.plans.specs.Reads.{Filled}
-use Rattle.laws.specs.Lists.{spliced}
 use Rattle.machine.specs.declared.act.Act.{Act}
-use Rattle.machine.specs.Means.{Part, Became, Means}
+use Rattle.machine.specs.Means.{Part, Means}
 
-pub record PutIn (s : List ℕ) (p q : ℕ) (body v : List ℕ) (room : ℕ) (out : List ℕ) (r : ℕ) : Type 0 where
-  pub does : (e x : Term) → body ≡ termBytes e → v ≡ termBytes x → Became (spliced s p q (termBytes (put 0 x e))) room out r
+pub record Applied (s : List ℕ) (g room : ℕ) (out : List ℕ) (r : Act) : Type 0 where
+  pub does : (card : Card) (S : State) (a b : Term) → Part s 1 g a → Part s g (length s) b → Means card S s room out r (applies card S a b)
 
-pub record Applied (s : List ℕ) (p f g q room : ℕ) (out : List ℕ) (r : Act) : Type 0 where
-  pub does : (card : Card) (S : State) (a b : Term) → Part s f g a → Part s g q b → Means card S s p q room out r (applies card S a b)
+pub record LetBound (s : List ℕ) (g room : ℕ) (out : List ℕ) (r : Act) : Type 0 where
+  pub does : (card : Card) (S : State) (a b : Term) → Part s 1 g a → Part s g (length s) b → Means card S s room out r (goes letBound 0 (put 0 a b) nothing)
 
-pub record LetBound (s : List ℕ) (p f g q room : ℕ) (out : List ℕ) (r : Act) : Type 0 where
-  pub does : (card : Card) (S : State) (a b : Term) → Part s f g a → Part s g q b → Means card S s p q room out r (goes letBound 0 (put 0 a b) nothing)
+pub record WentOn (s : List ℕ) (g room : ℕ) (out : List ℕ) (r : Act) : Type 0 where
+  pub does : (card : Card) (S : State) (b : Term) → Part s g (length s) b → Means card S s room out r (goes wentOn 0 b nothing)
 
-pub record WentOn (s : List ℕ) (p g q room : ℕ) (out : List ℕ) (r : Act) : Type 0 where
-  pub does : (card : Card) (S : State) (b : Term) → Part s g q b → Means card S s p q room out r (goes wentOn 0 b nothing)
+pub record LockMade (s : List ℕ) (count most room : ℕ) (out : List ℕ) (r : Act) : Type 0 where
+  pub does : (card : Card) (S : State) (e : Term) → Part s 1 (length s) e → length (S .marks) ≡ count → card .locks ≡ most
+      → Means card S s room out r (makesLock card S e)
 
-pub record LockMade (s : List ℕ) (p f q count most room : ℕ) (out : List ℕ) (r : Act) : Type 0 where
-  pub does : (card : Card) (S : State) (e : Term) → Part s f q e → length (S .marks) ≡ count → card .locks ≡ most
-      → Means card S s p q room out r (makesLock card S e)
+pub record CellMade (s : List ℕ) (count most size room : ℕ) (out : List ℕ) (r : Act) : Type 0 where
+  pub does : (card : Card) (S : State) (a : Term) → Part s 1 (length s) a → length (S .cells) ≡ count → card .cells ≡ most → card .cellBytes ≡ size
+      → Means card S s room out r (makesCell card S a)
 
-pub record CellMade (s : List ℕ) (p f q count most size room : ℕ) (out : List ℕ) (r : Act) : Type 0 where
-  pub does : (card : Card) (S : State) (a : Term) → Part s f q a → length (S .cells) ≡ count → card .cells ≡ most → card .cellBytes ≡ size
-      → Means card S s p q room out r (makesCell card S a)
-
-pub record CellRead (s : List ℕ) (p f q : ℕ) (state : List ℕ) (from size room : ℕ) (out : List ℕ) (r : Act) : Type 0 where
-  pub does : (card : Card) (S : State) (a : Term) → Part s f q a
+pub record CellRead (s state : List ℕ) (from size room : ℕ) (out : List ℕ) (r : Act) : Type 0 where
+  pub does : (card : Card) (S : State) (a : Term) → Part s 1 (length s) a
       → ((j : ℕ) → asCell a ≡ some j → Filled (from + size * j) size (70 + 2 * j) state (termBytes (getD (S .cells) j Term.unit)))
-      → Means card S s p q room out r (reads card S a)
+      → Means card S s room out r (reads card S a)
 
-pub record CellWritten (s : List ℕ) (p f g q size room : ℕ) (out : List ℕ) (r : Act) : Type 0 where
-  pub does : (card : Card) (S : State) (a b : Term) → Part s f g a → Part s g q b → card .cellBytes ≡ size
-      → Means card S s p q room out r (writes card S a b)
+pub record CellWritten (s : List ℕ) (g size room : ℕ) (out : List ℕ) (r : Act) : Type 0 where
+  pub does : (card : Card) (S : State) (a b : Term) → Part s 1 g a → Part s g (length s) b → card .cellBytes ≡ size
+      → Means card S s room out r (writes card S a b)
 
-pub record Forked (s : List ℕ) (p f q count most room : ℕ) (out : List ℕ) (r : Act) : Type 0 where
-  pub does : (card : Card) (S : State) (e : Term) → Part s f q e → length (S .threads) ≡ count → card .threads ≡ most
-      → Means card S s p q room out r (forks card S e)
+pub record Forked (s : List ℕ) (count most room : ℕ) (out : List ℕ) (r : Act) : Type 0 where
+  pub does : (card : Card) (S : State) (e : Term) → Part s 1 (length s) e → length (S .threads) ≡ count → card .threads ≡ most
+      → Means card S s room out r (forks card S e)
 
-pub record LockTaken (s : List ℕ) (p f g q : ℕ) (state : List ℕ) (room : ℕ) (out : List ℕ) (r : Act) : Type 0 where
-  pub does : (card : Card) (S : State) (a b : Term) → Part s f g a → Part s g q b
+pub record LockTaken (s : List ℕ) (g : ℕ) (state : List ℕ) (room : ℕ) (out : List ℕ) (r : Act) : Type 0 where
+  pub does : (card : Card) (S : State) (a b : Term) → Part s 1 g a → Part s g (length s) b
       → ((l : ℕ) → asLock a ≡ some l → at state (6 + l) ≡ at (S .marks) l)
-      → Means card S s p q room out r (takes card S a b)
+      → Means card S s room out r (takes card S a b)
 
-pub record LockReleased (s : List ℕ) (p f q room : ℕ) (out : List ℕ) (r : Act) : Type 0 where
-  pub does : (card : Card) (S : State) (l : ℕ) (e : Term) → Part s f q e → at s (p + 1) ≡ l → Means card S s p q room out r (goes lockReleased l e (released l))
+pub record LockReleased (s : List ℕ) (room : ℕ) (out : List ℕ) (r : Act) : Type 0 where
+  pub does : (card : Card) (S : State) (l : ℕ) (e : Term) → Part s 2 (length s) e → at s 1 ≡ l → Means card S s room out r (goes lockReleased l e (released l))
 
-pub record Added (s : List ℕ) (p f g q room : ℕ) (out : List ℕ) (r : Act) : Type 0 where
-  pub does : (card : Card) (S : State) (a b : Term) → Part s f g a → Part s g q b → Numbers a → Numbers b
-      → Means card S s p q room out r (adds card S a b)
+pub record Added (s : List ℕ) (g room : ℕ) (out : List ℕ) (r : Act) : Type 0 where
+  pub does : (card : Card) (S : State) (a b : Term) → Part s 1 g a → Part s g (length s) b → Numbers a → Numbers b
+      → Means card S s room out r (adds card S a b)
 
-pub record Branched (s : List ℕ) (p f g h q room : ℕ) (out : List ℕ) (r : Act) : Type 0 where
-  pub does : (card : Card) (S : State) (a b e : Term) → Part s f g a → Part s g h b → Part s h q e → Numbers a
-      → Means card S s p q room out r (branches card S a b e)
+pub record Branched (s : List ℕ) (g h room : ℕ) (out : List ℕ) (r : Act) : Type 0 where
+  pub does : (card : Card) (S : State) (a b e : Term) → Part s 1 g a → Part s g h b → Part s h (length s) e → Numbers a
+      → Means card S s room out r (branches card S a b e)

@@ -4,7 +4,6 @@ pub mod Kinds
 -- ---- the kinds of step
 pub mod Forms
 pub mod Parts
-pub mod Putting
 pub mod Doing
 -- ---- which kind it is
 pub mod Inner

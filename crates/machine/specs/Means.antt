@@ -14,9 +14,8 @@ use Rattle.paper.specs.States.{State, Card}
 use Rattle.paper.specs.Steps.{Change, nothing, newCell, setCell, newLock, taken, released, newThread}
 use Rattle.paper.specs.Steps.{Move, waits, stuck, full, long, goes}
 use Rattle.paper.specs.Calls.{laid}
-use Rattle.laws.specs.Lists.{spliced}
 use Rattle.slots.specs.Put.{piece}
-use Rattle.slots.specs.Written.{Written, written-fits, roomFor}
+use Rattle.slots.specs.Written.{Written, written-fits, written-behind, stands-none, roomFor}
 use Rattle.slots.specs.TermAt.{some-bytes, stands}
 use Rattle.machine.specs.declared.act.Act.{Act}
 use Rattle.machine.specs.declared.act.Act.the-variants.{Stuck, Full, Long, Waits, Goes}
@@ -40,11 +39,6 @@ pub record Cut3 (s : List ℕ) (a b c d : ℕ) : Type 0 where
   pub second : b < c
   pub third : c < d
   pub inside : d ≤ length s
-
--- the part from p up to q is within the thread
-pub record Around (s : List ℕ) (p q : ℕ) : Type 0 where
-  pub first : p ≤ length s
-  pub rest : q ≤ length s
 
 -- no part of s is longer than the lent stack
 pub record Short (s stack : List ℕ) : Type 0 where
@@ -81,7 +75,7 @@ module _ {s : List ℕ} {a b : ℕ} {v : Term} (h : Part s a b v) where
       let e = h .to in
       record { some = omega (arith, some-bytes v); inside = omega (arith, length-drop a s, length-append (termBytes v) (h .rest)) }
 
--- ---- what the thread becomes
+-- ---- what the part becomes
 
 -- `res` stands first in the bytes left in a buffer of `room` bytes, r of them; or it does not fit
 pub record Became (res : List ℕ) (room : ℕ) (out : List ℕ) (r : ℕ) : Type 0 where
@@ -105,29 +99,30 @@ module _ {res before after : List ℕ} {r : ℕ} (w : Written res before after r
           absurd (omega arith)
       go false e h = leb-false (length res) (length before) e
 
--- the part exchanged for the term x, whose bytes were lent
-pub exchanged : (s : List ℕ) (p q : ℕ) (mid : List ℕ) (x : Term) {before after : List ℕ} {r : ℕ} → Written (spliced s p q mid) before after r
-    → mid ≡ termBytes x → Became (spliced s p q (termBytes x)) (length before) after r
-exchanged s p q mid x {before} {after} {r} w e = became (subst (λ y. Written (spliced s p q y) before after r) e w)
+-- the bytes of a term, written first
+pub wrote : {mid : List ℕ} (x : Term) {before after : List ℕ} {r : ℕ} → Written (take 0 before ++ mid) before after r → mid ≡ termBytes x
+    → Became (termBytes x) (length before) after r
+wrote {mid} x {before} {after} {r} w e =
+    became (subst (λ y. Written y before after r) e (written-behind (stands-none before) mid w))
 
 -- ---- what an answer means
 
 -- what else changes, with the room that the card has for it
 pub data Changes (card : Card) (S : State) (s : List ℕ) : Also → Change → Type 0 where
   is-nothing : Changes card S s Nothing nothing
-  is-new-cell : {a b : ℕ} {v : Term} → length (S .cells) < card .cells → length (termBytes v) ≤ card .cellBytes → Part s a b v
-      → Changes card S s (NewCell a b) (newCell v)
-  is-set-cell : {j a b : ℕ} {v : Term} → length (termBytes v) ≤ card .cellBytes → Part s a b v → Changes card S s (SetCell j a b) (setCell j v)
+  is-new-cell : {v : Term} → length (S .cells) < card .cells → length (termBytes v) ≤ card .cellBytes → Part s 1 (length s) v
+      → Changes card S s NewCell (newCell v)
+  is-set-cell : {j a : ℕ} {v : Term} → length (termBytes v) ≤ card .cellBytes → Part s a (length s) v → Changes card S s (SetCell j a) (setCell j v)
   is-new-lock : length (S .marks) < card .locks → Changes card S s NewLock newLock
   is-taken : {l : ℕ} → Changes card S s (Taken l) (taken l)
   is-released : {l : ℕ} → Changes card S s (Released l) (released l)
-  is-new-thread : {i a b : ℕ} {v : Term} → i < card .threads → Part s a b v → Changes card S s (NewThread i a b) (newThread i v)
+  is-new-thread : {i : ℕ} {v : Term} → i < card .threads → Part s 1 (length s) v → Changes card S s (NewThread i) (newThread i v)
 
--- the part from p up to q of s makes the move, in a buffer of `room` bytes that is left with `out`
-pub data Means (card : Card) (S : State) (s : List ℕ) (p q room : ℕ) (out : List ℕ) : Act → Move → Type 0 where
-  is-stuck : Means card S s p q room out Stuck stuck
-  is-full : Means card S s p q room out Full full
-  is-long : Means card S s p q room out Long long
-  is-waits : {l : ℕ} → Means card S s p q room out (Waits l) (waits l)
-  is-goes : {k n r : ℕ} {x : Term} {a : Also} {c : Change} → Became (spliced s p q (termBytes x)) room out r → Changes card S s a c
-      → Means card S s p q room out (Goes k n r a) (goes k n x c)
+-- the part whose bytes are s makes the move, in a buffer of `room` bytes that is left with `out`
+pub data Means (card : Card) (S : State) (s : List ℕ) (room : ℕ) (out : List ℕ) : Act → Move → Type 0 where
+  is-stuck : Means card S s room out Stuck stuck
+  is-full : Means card S s room out Full full
+  is-long : Means card S s room out Long long
+  is-waits : {l : ℕ} → Means card S s room out (Waits l) (waits l)
+  is-goes : {k n r : ℕ} {x : Term} {a : Also} {c : Change} → Became (termBytes x) room out r → Changes card S s a c
+      → Means card S s room out (Goes k n r a) (goes k n x c)

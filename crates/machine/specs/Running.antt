@@ -6,7 +6,7 @@ use mathlib.Core.List.{List, [], _++_, append-nil}
 use Prim.Native.Nat.{ℕ, _+_, _-_, _*_, _<_, _≤_, max}
 use native.Mathlib.Nat.{zero-add}
 use native.Mathlib.Omega.{arith}
-use lib.ListN.{length, getD, take, drop, length-append, drop-of-length-le}
+use lib.ListN.{length, getD, take, drop, length-append}
 use Rattle.paper.specs.Terms.{Term, termBytes, value}
 use Rattle.paper.specs.Evaluation.{placed}
 use Rattle.paper.specs.States.{State, Card, Holds, Fits}
@@ -39,33 +39,28 @@ use Rattle.machine.specs.DuePart.{due-part}
 use Rattle.machine.specs.Answering.{Answers, Running}
 use Rattle.machine.specs.Behind.{thread-left, thread-restored}
 
--- all bytes exchanged for others are those others
-all-exchanged : (s x : List ℕ) → spliced s 0 (length s) x ≡ x
-unfolding spliced
-all-exchanged s x = ap (λ z. x ++ z) (drop-of-length-le s {i = length s} (omega arith)) ∙ append-nil x
-
 -- a move that goes on, taken apart
-record Went (card : Card) (S : State) (s : List ℕ) (p q room : ℕ) (out : List ℕ) (k n r : ℕ) (a : Also) (m : Move) : Type 0 where
+record Went (card : Card) (S : State) (s : List ℕ) (room : ℕ) (out : List ℕ) (k n r : ℕ) (a : Also) (m : Move) : Type 0 where
   term : Term
   change : Change
   move-is : m ≡ goes k n term change
-  became : Became (spliced s p q (termBytes term)) room out r
+  became : Became (termBytes term) room out r
   changes : Changes card S s a change
 
-module _ {card : Card} {S : State} {s : List ℕ} {p q room : ℕ} {out : List ℕ} where
-  went : {k n r : ℕ} {a : Also} {m : Move} → Means card S s p q room out (Goes k n r a) m → Went card S s p q room out k n r a m
+module _ {card : Card} {S : State} {s : List ℕ} {room : ℕ} {out : List ℕ} where
+  went : {k n r : ℕ} {a : Also} {m : Move} → Means card S s room out (Goes k n r a) m → Went card S s room out k n r a m
   went (is-goes {x = x} {c = c} b h) = record { term = x; change = c; move-is = refl; became = b; changes = h }
 
-  means-stuck : {m : Move} → Means card S s p q room out Stuck m → m ≡ stuck
+  means-stuck : {m : Move} → Means card S s room out Stuck m → m ≡ stuck
   means-stuck is-stuck = refl
 
-  means-full : {m : Move} → Means card S s p q room out Full m → m ≡ full
+  means-full : {m : Move} → Means card S s room out Full m → m ≡ full
   means-full is-full = refl
 
-  means-long : {m : Move} → Means card S s p q room out Long m → m ≡ long
+  means-long : {m : Move} → Means card S s room out Long m → m ≡ long
   means-long is-long = refl
 
-  means-waits : {l : ℕ} {m : Move} → Means card S s p q room out (Waits l) m → m ≡ waits l
+  means-waits : {l : ℕ} {m : Move} → Means card S s room out (Waits l) m → m ≡ waits l
   means-waits is-waits = refl
 
 module _ {card : Card} {state : List ℕ} {i : ℕ} {d : Due} {s buffer stack : List ℕ} (w : Running card state i d s buffer stack) where
@@ -130,7 +125,7 @@ module _ {card : Card} {state : List ℕ} {i : ℕ} {d : Due} {s buffer stack : 
     to = ap length bytes ∙ sym (zero-add (length (termBytes redex)));
   }
 
-  pub run-redex : Redex s 0 (d .second) (length s)
+  pub run-redex : Redex s (d .second)
   unfolding S thread redex
   run-redex = record {
     term = redex;
@@ -170,15 +165,15 @@ module _ {card : Card} {state : List ℕ} {i : ℕ} {d : Due} {s buffer stack : 
   unfolding S thread
   unfinished = w .going
 
-  module _ {out : List ℕ} {r : Act} (a : Acts card s 0 (length s) state (length buffer) out r) where
-    meant : Means card S s 0 (length s) (length buffer) out r (move card S redex)
+  module _ {out : List ℕ} {r : Act} (a : Acts card s state (length buffer) out r) where
+    meant : Means card S s (length buffer) out r (move card S redex)
     unfolding redex
     meant =
         a .does S holds (found thread .redex) alone (found thread .awaits) (found thread .lives unfinished)
         (found thread .keeps (length (S .cells)) (length (S .marks)) placed-there)
 
-    meant-as : {x : Act} → r ≡ x → Means card S s 0 (length s) (length buffer) out x (move card S redex)
-    meant-as e = subst (λ x. Means card S s 0 (length s) (length buffer) out x (move card S redex)) e meant
+    meant-as : {x : Act} → r ≡ x → Means card S s (length buffer) out x (move card S redex)
+    meant-as e = subst (λ x. Means card S s (length buffer) out x (move card S redex)) e meant
 
     whole : {m : Move} → move card S redex ≡ m → move card S thread ≡ inPlace (found thread .frame) m
     unfolding redex
@@ -203,7 +198,7 @@ module _ {card : Card} {state : List ℕ} {i : ℕ} {d : Due} {s buffer stack : 
     -- ---- it goes on
 
     module _ {k n m : ℕ} {also : Also} (e : r ≡ Goes k n m also) where
-      on : Went card S s 0 (length s) (length buffer) out k n m also (move card S redex)
+      on : Went card S s (length buffer) out k n m also (move card S redex)
       on = went (meant-as e)
 
       after : Term
@@ -214,7 +209,7 @@ module _ {card : Card} {state : List ℕ} {i : ℕ} {d : Due} {s buffer stack : 
       next = whole (on .move-is)
 
       became : Became (termBytes (on .term)) (length buffer) out m
-      became = subst (λ z. Became z (length buffer) out m) (all-exchanged s (termBytes (on .term))) (on .became)
+      became = on .became
 
       grows : length (termBytes after) + length s ≡ d .used + length (termBytes (on .term))
       unfolding after

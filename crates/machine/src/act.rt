@@ -18,15 +18,16 @@ pub(crate) const SIXTEEN: Card = Card {
     locks: 32,
 };
 
-// What changes beside the thread. A value or a new thread is said by its place in the bytes of the part that makes the step, from and to.
+// What changes beside the thread. A new cell's value and a new thread are the bytes behind the code of the part that makes the step; the value
+// that a cell is set to is said by the place where it begins in that part.
 pub(crate) enum Also {
     Nothing,
-    NewCell(usize, usize),
-    SetCell(usize, usize, usize),
+    NewCell,
+    SetCell(usize, usize),
     NewLock,
     Taken(usize),
     Released(usize),
-    NewThread(usize, usize, usize),
+    NewThread(usize),
 }
 
 // What the part at the place of evaluation does: none of it, or a kind and a number, how many bytes it becomes (or one more than there is

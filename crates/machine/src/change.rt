@@ -58,14 +58,14 @@ pub(crate) fn change(state: &mut [u8], card: Card, s: &[u8], also: Also)
 {
     match also {
         Also::Nothing => {}
-        Also::NewCell(a, b) => new_cell(state, card, &s[a..b]),
-        Also::SetCell(j, a, b) => set_cell(state, card, j, &s[a..b]),
+        Also::NewCell => new_cell(state, card, &s[1..]),
+        Also::SetCell(j, a) => set_cell(state, card, j, &s[a..]),
         Also::NewLock => {
             let count = byte_at(state, 5);
             put_byte(state, 5, count + 1);
         }
         Also::Taken(l) => put_byte(state, 6 + l, 1),
         Also::Released(l) => put_byte(state, 6 + l, 0),
-        Also::NewThread(i, a, b) => new_thread(state, card, i, &s[a..b]),
+        Also::NewThread(i) => new_thread(state, card, i, &s[1..]),
     }
 }

@@ -79,7 +79,7 @@ fn run_part(
     ensures { λ r. ⌜ Answers (cardOf card) (now (state .entry)) i (now (state .exit)) r ⌝ }
 {
     let size = card.thread_bytes;
-    match act(s, 0, due.second, s.len(), state, card, out, stack) {
+    match act(s, due.second, state, card, out, stack) {
         Act::Stuck => Step::IsStuck,
         Act::Full => Step::TooMany,
         Act::Long => Step::TooLong,

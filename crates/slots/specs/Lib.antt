@@ -13,7 +13,6 @@ pub mod Written
 pub mod Put
 pub mod PutBytes
 pub mod PutLoop
-pub mod Splice
 pub mod TermAt
 pub mod PutTerm
 pub mod ClosedTerm

@@ -20,7 +20,7 @@ use Rattle.slots.specs.Written.{Written, written-fits, written-short, St
 use Rattle.slots.specs.Written.{stands-length, written-behind}
 use Rattle.slots.specs.Put.{putBytes, putOf, hit, piece, putIn, Put}
 use Rattle.slots.specs.PutBytes.{put-over, put-end, var-row, put-var, put-code}
-use Rattle.slots.specs.Splice.{cut-first, cut-written}
+use Rattle.slots.specs.Written.{cut-first, cut-written}
 
 -- ---- the stretch that is not copied yet
 

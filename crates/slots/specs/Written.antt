@@ -1,5 +1,6 @@
--- Bytes that are written first into a lent buffer, as far as there is room, with the rest of it as it was: what `put` and `splice` do with
--- the expression that they make. The answer is how many bytes, or one more than the buffer has where they do not fit.
+-- Bytes that are written first into a lent buffer, as far as there is room, with the rest of it as it was: what `put` does with the expression
+-- that it makes, and `fill` and `fill_both` with the bytes that they are handed. The answer is how many bytes, or one more than the buffer has
+-- where they do not fit.
 use mathlib.Core.Path.{_≡_, refl, sym, ap, _∙_, subst}
 use mathlib.Core.Bool.{Bool, true, false}
 use mathlib.Core.List.{List, [], _++_, append-assoc, append-nil}
@@ -136,6 +137,22 @@ module _ (d x : List ℕ) (at : ℕ) {d₁ : List ℕ} {r₁ : ℕ} (w : Written
   pub both-written : r₁ ≤ length d → {d₂ : List ℕ} {r₂ : ℕ} → Written (take r₁ d₁ ++ v) d₁ d₂ r₂ → Written (take at d ++ (x ++ v)) d d₂ r₂
   both-written h {d₂} {r₂} z =
       subst (λ (y : List ℕ). Written y d d₂ r₂) (append-assoc (take at d) x v) (written-behind (fits-stands (written-fits w h)) v z)
+
+-- ---- a place past the end is the end
+
+module _ (s : List ℕ) (n k : ℕ) (e : k ≡ min n (length s)) where
+  pub cut-first : take k s ≡ take n s
+  cut-first = go (leb n (length s)) refl
+    where
+      go : (b : Bool) → leb n (length s) ≡ b → take k s ≡ take n s
+      go true h = let l = leb-true n (length s) h in let z : k ≡ n = omega arith in rw z
+      go false h =
+          let l = leb-false n (length s) h in
+          let z : k ≡ length s = omega arith in
+          take-all k s (omega arith) ∙ sym (take-all n s (omega arith))
+
+  pub cut-written : (v : List ℕ) {d : List ℕ} {r : ℕ} → Written (take k s ++ v) s d r → Written (take n s ++ v) s d r
+  cut-written v {d} {r} = subst (λ (x : List ℕ). Written (x ++ v) s d r) cut-first
 
 -- ---- the loop of `fill`
 

@@ -1,11 +1,10 @@
-// A new expression, made of an old one's bytes, into a lent buffer: a value put for the outermost variable, and a part exchanged.
+// A new expression, made of an old one's bytes, into a lent buffer: a value put for the outermost variable, or bytes one behind the other.
 ghost use mathlib.Core.Path.{_≡_};
 ghost use mathlib.Core.List.{_++_};
 ghost use Prim.Native.Nat.{_+_, _≤_, _<_, min};
 ghost use lib.ListN.{length, take};
 ghost use Rattle.slots.specs.Written.{Written};
-ghost use Rattle.laws.specs.Lists.{spliced};
-ghost use Rattle.slots.specs.Put.{hit, piece, putOf, Put};
+ghost use Rattle.slots.specs.Put.{hit, putOf, Put};
 use crate::codes::byte;
 use crate::codes::fields;
 use crate::stack::Next;
@@ -37,17 +36,15 @@ pub fn fill(v: &[u8], dst: &mut [u8], at: usize) -> usize
     from + n
 }
 
-// The bytes of src from a up to b, and v behind them.
-fn fill_both(src: &[u8], a: usize, b: usize, v: &[u8], dst: &mut [u8], at: usize) -> usize
-    requires { ⌜ a ≤ b ⌝ }
-    requires { ⌜ b ≤ length (now src) ⌝ }
-    ensures { λ r. ⌜ Written (take at (now (dst .entry)) ++ (piece (now (src .entry)) a b ++ now (v .entry))) (now (dst .entry)) (now (dst .exit)) r ⌝ }
+// v and w behind it, in the same way.
+pub fn fill_both(v: &[u8], w: &[u8], dst: &mut [u8], at: usize) -> usize
+    ensures { λ r. ⌜ Written (take at (now (dst .entry)) ++ (now (v .entry) ++ now (w .entry))) (now (dst .entry)) (now (dst .exit)) r ⌝ }
 {
-    let first = fill(&src[a..b], dst, at);
+    let first = fill(v, dst, at);
     if dst.len() < first {
         return first;
     }
-    fill(v, dst, first)
+    fill(w, dst, first)
 }
 
 // Whether a variable stands at i, and is d.
@@ -87,7 +84,7 @@ fn pass(src: &[u8], v: &[u8], dst: &mut [u8], at: usize, stack: &mut [u8]) -> us
         let d = next.d;
         let sp = next.sp;
         if is_hit(src, i, d) {
-            out = fill_both(src, from, i, v, dst, out);
+            out = fill_both(&src[from..i], v, dst, out);
             if dst.len() < out {
                 return out;
             }
@@ -116,21 +113,4 @@ pub fn put(src: &[u8], v: &[u8], dst: &mut [u8], at: usize, stack: &mut [u8]) ->
     let r = pass(src, v, dst, from, &mut stack[..n]);
     clear(&mut stack[..n]);
     r
-}
-
-// The bytes of src with mid for those from p up to q, to dst as far as there is room: how many, or one more than dst's length.
-pub fn splice(src: &[u8], p: usize, q: usize, mid: &[u8], dst: &mut [u8]) -> usize
-    ensures { λ r. ⌜ Written (spliced (now (src .entry)) p q (now (mid .entry))) (now (dst .entry)) (now (dst .exit)) r ⌝ }
-{
-    let a = least(p, src.len());
-    let b = least(q, src.len());
-    let first = fill(&src[..a], dst, 0);
-    if dst.len() < first {
-        return first;
-    }
-    let second = fill(mid, dst, first);
-    if dst.len() < second {
-        return second;
-    }
-    fill(&src[b..], dst, second)
 }

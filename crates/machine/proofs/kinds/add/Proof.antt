@@ -10,22 +10,24 @@ shared-slice-read-if1 : tie.Need-shared-slice-read-if1
 shared-slice-read-if1 c = search needs
 
 returns : tie.Need-returns
-returns c = add-stuck (c .if1 .taken)
+returns c =
+    let at-if1 = c in
+    add-stuck (at-if1 .if1 .taken)
 
 shared-slice-read-if2 : tie.Need-shared-slice-read-if2
 shared-slice-read-if2 c = search needs
 
 returns-2 : tie.Need-returns-2
-returns-2 c = add-stuck-too (c .before .before .if1 .left) (c .if2 .taken)
-
-add-word-at : tie.Need-add-word-at
-add-word-at c = search needs
+returns-2 c =
+    let at-if2 = c in
+    let at-if1 = c .before .before in
+    add-stuck-too (at-if1 .if1 .left) (at-if2 .if2 .taken)
 
 word-at-requires : tie.Need-word-at-requires
 word-at-requires c κs = search needs
 
-add-word-at-2 : tie.Need-add-word-at-2
-add-word-at-2 c = search needs
+add-word-at : tie.Need-add-word-at
+add-word-at c = search needs
 
 word-at-requires-2 : tie.Need-word-at-requires-2
 word-at-requires-2 c κs = search needs
@@ -33,36 +35,36 @@ word-at-requires-2 c κs = search needs
 wrapping-add-u32-requires : tie.Need-wrapping-add-u32-requires
 wrapping-add-u32-requires c κs = search needs
 
-cast-t11 : tie.Need-cast-t11
-cast-t11 c = search needs
+cast-t8 : tie.Need-cast-t8
+cast-t8 c = search needs
 
-cast-t20 : tie.Need-cast-t20
-cast-t20 c = search needs
+cast-t16 : tie.Need-cast-t16
+cast-t16 c = search needs
 
-cast-t23 : tie.Need-cast-t23
-cast-t23 c = search needs
+cast-t19 : tie.Need-cast-t19
+cast-t19 c = search needs
 
-cast-t25 : tie.Need-cast-t25
-cast-t25 c = search needs
+cast-t21 : tie.Need-cast-t21
+cast-t21 c = search needs
 
-slice-aggregate-splice : tie.Need-slice-aggregate-splice
-slice-aggregate-splice c = search needs
+slice-aggregate-fill : tie.Need-slice-aggregate-fill
+slice-aggregate-fill c = search needs
 
-splice-requires : tie.Need-splice-requires
-splice-requires c κs = search needs
+fill-requires : tie.Need-fill-requires
+fill-requires c κs = search needs
 
 same-length : tie.Need-same-length
 same-length c = search needs
 
 returns-3 : tie.Need-returns-3
 returns-3 c =
-    let at-splice = c .before .before in
+    let at-fill = c .before .before in
     let at-wrapping-add-u32 = c .before .before .before .before .before in
     let at-word-at2 = c .before .before .before .before .before .before in
     let at-word-at = c .before .before .before .before .before .before .before in
     let at-if2 = c .before .before .before .before .before .before .before .before in
     let at-if1 = c .before .before .before .before .before .before .before .before .before .before in
-    add-done (at-if1 .if1 .left) (at-if2 .if2 .left) (at-wrapping-add-u32 .wrapping-add-u32 .ensures ∙ ap₂ (λ x y. (x + y) % 2 ^ 32) (at-word-at .word-at .ensures) (at-word-at2 .word-at2 .ensures)) (at-splice .splice .ensures)
+    add-done (at-if1 .if1 .left) (at-if2 .if2 .left) (at-wrapping-add-u32 .wrapping-add-u32 .ensures ∙ ap₂ (λ x y. (x + y) % 2 ^ 32) (at-word-at .word-at .ensures) (at-word-at2 .word-at2 .ensures)) (at-fill .fill .ensures)
 
 pub add-spec : {M : Type 1} → statement M
 add-spec =
@@ -72,16 +74,15 @@ add-spec =
     returns
     shared-slice-read-if2
     returns-2
-    add-word-at
     word-at-requires
-    add-word-at-2
+    add-word-at
     word-at-requires-2
     wrapping-add-u32-requires
-    cast-t11
-    cast-t20
-    cast-t23
-    cast-t25
-    slice-aggregate-splice
-    splice-requires
+    cast-t8
+    cast-t16
+    cast-t19
+    cast-t21
+    slice-aggregate-fill
+    fill-requires
     same-length
     returns-3)

@@ -4,26 +4,26 @@ use Rattle.machine.specs.Doing.{bind-done}
 use Rattle.machine.proofs.kinds.bind.Statement.{statement}
 use Rattle.machine.proofs.kinds.bind.Tie as tie
 
-sub-put-in : tie.Need-sub-put-in
-sub-put-in c = search needs
+sub-put : tie.Need-sub-put
+sub-put c = search needs
 
-part-put-in-start : tie.Need-part-put-in-start
-part-put-in-start c = search needs
+part-put-start : tie.Need-part-put-start
+part-put-start c = search needs
 
-part-put-in-end : tie.Need-part-put-in-end
-part-put-in-end c = search needs
+part-put-end : tie.Need-part-put-end
+part-put-end c = search needs
 
-sub-put-in-2 : tie.Need-sub-put-in-2
-sub-put-in-2 c = search needs
+sub-put-2 : tie.Need-sub-put-2
+sub-put-2 c = search needs
 
-part-put-in-start-2 : tie.Need-part-put-in-start-2
-part-put-in-start-2 c = search needs
+part-put-start-2 : tie.Need-part-put-start-2
+part-put-start-2 c = search needs
 
-part-put-in-end-2 : tie.Need-part-put-in-end-2
-part-put-in-end-2 c = search needs
+part-put-end-2 : tie.Need-part-put-end-2
+part-put-end-2 c = search needs
 
-put-in-requires : tie.Need-put-in-requires
-put-in-requires c κs = search needs
+put-requires : tie.Need-put-requires
+put-requires c κs = search needs
 
 same-length : tie.Need-same-length
 same-length c = search needs
@@ -33,20 +33,21 @@ same-length-2 c = search needs
 
 returns : tie.Need-returns
 returns c =
-    let at-put-in = c .before .before .before .before in
-    bind-done (at-put-in .put-in .ensures)
+    let at-put = c .before .before .before .before in
+    let at-start = c .before .before .before .before .before .before .before .before .before .before .before .before in
+    bind-done (at-start .pre .1) (at-put .put .ensures)
 
 pub bind-spec : {M : Type 1} → statement M
 bind-spec =
     tie.close
     (tie.spec
-    sub-put-in
-    part-put-in-start
-    part-put-in-end
-    sub-put-in-2
-    part-put-in-start-2
-    part-put-in-end-2
-    put-in-requires
+    sub-put
+    part-put-start
+    part-put-end
+    sub-put-2
+    part-put-start-2
+    part-put-end-2
+    put-requires
     same-length
     same-length-2
     returns)

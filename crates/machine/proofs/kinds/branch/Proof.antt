@@ -8,59 +8,58 @@ shared-slice-read-if1 : tie.Need-shared-slice-read-if1
 shared-slice-read-if1 c = search needs
 
 returns : tie.Need-returns
-returns c = branch-stuck (c .if1 .taken)
-
-add-word-at : tie.Need-add-word-at
-add-word-at c = search needs
+returns c =
+    let at-if1 = c in
+    branch-stuck (at-if1 .if1 .taken)
 
 word-at-requires : tie.Need-word-at-requires
 word-at-requires c κs = search needs
 
-sub-splice : tie.Need-sub-splice
-sub-splice c = search needs
+sub-fill : tie.Need-sub-fill
+sub-fill c = search needs
 
-part-splice-start : tie.Need-part-splice-start
-part-splice-start c = search needs
+part-fill-start : tie.Need-part-fill-start
+part-fill-start c = search needs
 
-part-splice-end : tie.Need-part-splice-end
-part-splice-end c = search needs
+part-fill-end : tie.Need-part-fill-end
+part-fill-end c = search needs
 
-splice-requires : tie.Need-splice-requires
-splice-requires c κs = search needs
+fill-requires : tie.Need-fill-requires
+fill-requires c κs = search needs
 
 same-length : tie.Need-same-length
 same-length c = search needs
 
 returns-2 : tie.Need-returns-2
 returns-2 c =
-    let at-splice = c .before .before in
+    let at-fill = c .before .before in
     let at-if2 = c .before .before .before .before .before in
     let at-word-at = c .before .before .before .before .before .before in
     let at-if1 = c .before .before .before .before .before .before .before in
-    branch-else (at-if1 .if1 .left) (at-word-at .word-at .ensures) (at-if2 .if2 .taken) (at-splice .splice .ensures)
+    branch-else (at-if1 .if1 .left) (at-word-at .word-at .ensures) (at-if2 .if2 .taken) (at-fill .fill .ensures)
 
-sub-splice-2 : tie.Need-sub-splice-2
-sub-splice-2 c = search needs
+sub-fill-2 : tie.Need-sub-fill-2
+sub-fill-2 c = search needs
 
-part-splice-start-2 : tie.Need-part-splice-start-2
-part-splice-start-2 c = search needs
+part-fill-start-2 : tie.Need-part-fill-start-2
+part-fill-start-2 c = search needs
 
-part-splice-end-2 : tie.Need-part-splice-end-2
-part-splice-end-2 c = search needs
+part-fill-end-2 : tie.Need-part-fill-end-2
+part-fill-end-2 c = search needs
 
-splice-requires-2 : tie.Need-splice-requires-2
-splice-requires-2 c κs = search needs
+fill-requires-2 : tie.Need-fill-requires-2
+fill-requires-2 c κs = search needs
 
 same-length-2 : tie.Need-same-length-2
 same-length-2 c = search needs
 
 returns-3 : tie.Need-returns-3
 returns-3 c =
-    let at-splice2 = c .before .before in
+    let at-fill2 = c .before .before in
     let at-if2 = c .before .before .before .before .before in
     let at-word-at = c .before .before .before .before .before .before in
     let at-if1 = c .before .before .before .before .before .before .before in
-    branch-then (at-if1 .if1 .left) (at-word-at .word-at .ensures) (at-if2 .if2 .left) (at-splice2 .splice2 .ensures)
+    branch-then (at-if1 .if1 .left) (at-word-at .word-at .ensures) (at-if2 .if2 .left) (at-fill2 .fill2 .ensures)
 
 pub branch-spec : {M : Type 1} → statement M
 branch-spec =
@@ -68,17 +67,16 @@ branch-spec =
     (tie.spec
     shared-slice-read-if1
     returns
-    add-word-at
     word-at-requires
-    sub-splice
-    part-splice-start
-    part-splice-end
-    splice-requires
+    sub-fill
+    part-fill-start
+    part-fill-end
+    fill-requires
     same-length
     returns-2
-    sub-splice-2
-    part-splice-start-2
-    part-splice-end-2
-    splice-requires-2
+    sub-fill-2
+    part-fill-start-2
+    part-fill-end-2
+    fill-requires-2
     same-length-2
     returns-3)

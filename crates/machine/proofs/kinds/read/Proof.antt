@@ -10,10 +10,9 @@ shared-slice-read-if1 : tie.Need-shared-slice-read-if1
 shared-slice-read-if1 c = search needs
 
 returns : tie.Need-returns
-returns c = read-stuck (c .if1 .taken)
-
-add-byte-at : tie.Need-add-byte-at
-add-byte-at c = search needs
+returns c =
+    let at-if1 = c in
+    read-stuck (at-if1 .if1 .taken)
 
 byte-at-requires : tie.Need-byte-at-requires
 byte-at-requires c κs = search needs
@@ -32,10 +31,11 @@ two-at-requires c κs = search needs
 
 returns-2 : tie.Need-returns-2
 returns-2 c =
+    let at-if2 = c in
     let at-two-at = c .before in
     let at-byte-at = c .before .before in
     let at-if1 = c .before .before .before in
-    read-slot (at-if1 .if1 .left) (at-byte-at .byte-at .ensures) (at-two-at .two-at .ensures) (c .if2 .taken)
+    read-slot (at-if1 .if1 .left) (at-byte-at .byte-at .ensures) (at-two-at .two-at .ensures) (at-if2 .if2 .taken)
 
 mul-a : tie.Need-mul-a
 mul-a c =
@@ -57,34 +57,35 @@ add-b c =
 
 returns-3 : tie.Need-returns-3
 returns-3 c =
+    let at-if3 = c in
     let at-if2 = c .before in
     let at-two-at = c .before .before in
     let at-byte-at = c .before .before .before in
     let at-if1 = c .before .before .before .before in
-    read-end (at-if1 .if1 .left) (at-byte-at .byte-at .ensures) (at-two-at .two-at .ensures) (at-if2 .if2 .left) (c .if3 .taken)
+    read-end (at-if1 .if1 .left) (at-byte-at .byte-at .ensures) (at-two-at .two-at .ensures) (at-if2 .if2 .left) (at-if3 .if3 .taken)
 
-sub-splice : tie.Need-sub-splice
-sub-splice c = search needs
+sub-fill : tie.Need-sub-fill
+sub-fill c = search needs
 
-part-splice-start : tie.Need-part-splice-start
-part-splice-start c = search needs
+part-fill-start : tie.Need-part-fill-start
+part-fill-start c = search needs
 
-part-splice-end : tie.Need-part-splice-end
-part-splice-end c = search needs
+part-fill-end : tie.Need-part-fill-end
+part-fill-end c = search needs
 
-splice-requires : tie.Need-splice-requires
-splice-requires c κs = search needs
+fill-requires : tie.Need-fill-requires
+fill-requires c κs = search needs
 
 same-length : tie.Need-same-length
 same-length c = search needs
 
 returns-4 : tie.Need-returns-4
 returns-4 c =
-    let at-splice = c .before .before in
+    let at-fill = c .before .before in
     let at-two-at = c .before .before .before .before .before .before .before in
     let at-byte-at = c .before .before .before .before .before .before .before .before in
     let at-if1 = c .before .before .before .before .before .before .before .before .before in
-    read-done (at-if1 .if1 .left) (at-byte-at .byte-at .ensures) (at-two-at .two-at .ensures) (at-splice .splice .ensures)
+    read-done (at-if1 .if1 .left) (at-byte-at .byte-at .ensures) (at-two-at .two-at .ensures) (at-fill .fill .ensures)
 
 pub read-spec : {M : Type 1} → statement M
 read-spec =
@@ -92,7 +93,6 @@ read-spec =
     (tie.spec
     shared-slice-read-if1
     returns
-    add-byte-at
     byte-at-requires
     cast-j
     mul-two-at
@@ -103,9 +103,9 @@ read-spec =
     add-a
     add-b
     returns-3
-    sub-splice
-    part-splice-start
-    part-splice-end
-    splice-requires
+    sub-fill
+    part-fill-start
+    part-fill-end
+    fill-requires
     same-length
     returns-4)

@@ -4,43 +4,42 @@ use Rattle.machine.specs.Doing.{release-done}
 use Rattle.machine.proofs.kinds.release.Statement.{statement}
 use Rattle.machine.proofs.kinds.release.Tie as tie
 
-add-byte-at : tie.Need-add-byte-at
-add-byte-at c = search needs
-
 byte-at-requires : tie.Need-byte-at-requires
 byte-at-requires c κs = search needs
 
 cast-l : tie.Need-cast-l
 cast-l c = search needs
 
-sub-splice : tie.Need-sub-splice
-sub-splice c = search needs
+sub-fill : tie.Need-sub-fill
+sub-fill c = search needs
 
-part-splice-start : tie.Need-part-splice-start
-part-splice-start c = search needs
+part-fill-start : tie.Need-part-fill-start
+part-fill-start c = search needs
 
-part-splice-end : tie.Need-part-splice-end
-part-splice-end c = search needs
+part-fill-end : tie.Need-part-fill-end
+part-fill-end c = search needs
 
-splice-requires : tie.Need-splice-requires
-splice-requires c κs = search needs
+fill-requires : tie.Need-fill-requires
+fill-requires c κs = search needs
 
 same-length : tie.Need-same-length
 same-length c = search needs
 
 returns : tie.Need-returns
-returns c = release-done (c .before .before .before .before .before .byte-at .ensures) (c .before .before .splice .ensures)
+returns c =
+    let at-fill = c .before .before in
+    let at-byte-at = c .before .before .before .before .before in
+    release-done (at-byte-at .byte-at .ensures) (at-fill .fill .ensures)
 
 pub release-spec : {M : Type 1} → statement M
 release-spec =
     tie.close
     (tie.spec
-    add-byte-at
     byte-at-requires
     cast-l
-    sub-splice
-    part-splice-start
-    part-splice-end
-    splice-requires
+    sub-fill
+    part-fill-start
+    part-fill-end
+    fill-requires
     same-length
     returns)

@@ -1,4 +1,4 @@
--- The first part is no lock, the lock is marked, or an open section is exchanged for the part.
+-- The first part is no lock, the lock is marked, or an open section is left.
 use mathlib.Core.Path.{sym, _∙_}
 use borrow.Author.Needs.{needs}
 use Rattle.machine.specs.Doing.{take-stuck, take-waits, take-done}
@@ -9,10 +9,9 @@ shared-slice-read-if1 : tie.Need-shared-slice-read-if1
 shared-slice-read-if1 c = search needs
 
 returns : tie.Need-returns
-returns c = take-stuck (c .if1 .taken)
-
-add-byte-at : tie.Need-add-byte-at
-add-byte-at c = search needs
+returns c =
+    let at-if1 = c in
+    take-stuck (at-if1 .if1 .taken)
 
 byte-at-requires : tie.Need-byte-at-requires
 byte-at-requires c κs = search needs
@@ -20,36 +19,46 @@ byte-at-requires c κs = search needs
 cast-l : tie.Need-cast-l
 cast-l c = search needs
 
-add-byte-at-2 : tie.Need-add-byte-at-2
-add-byte-at-2 c = search needs
+add-byte-at : tie.Need-add-byte-at
+add-byte-at c = search needs
 
 byte-at-requires-2 : tie.Need-byte-at-requires-2
 byte-at-requires-2 c κs = search needs
 
 returns-2 : tie.Need-returns-2
 returns-2 c =
+    let at-if2 = c in
     let at-byte-at2 = c .before in
     let at-byte-at = c .before .before in
     let at-if1 = c .before .before .before in
-    take-waits (at-if1 .if1 .left) (at-byte-at .byte-at .ensures) (λ z. c .if2 .taken (at-byte-at2 .byte-at2 .ensures ∙ z))
+    take-waits (at-if1 .if1 .left) (at-byte-at .byte-at .ensures) (λ z. at-if2 .if2 .taken (at-byte-at2 .byte-at2 .ensures ∙ z))
 
-slice-aggregate-splice : tie.Need-slice-aggregate-splice
-slice-aggregate-splice c = search needs
+slice-aggregate-fill-both : tie.Need-slice-aggregate-fill-both
+slice-aggregate-fill-both c = search needs
 
-splice-requires : tie.Need-splice-requires
-splice-requires c κs = search needs
+sub-fill-both : tie.Need-sub-fill-both
+sub-fill-both c = search needs
+
+part-fill-both-start : tie.Need-part-fill-both-start
+part-fill-both-start c = search needs
+
+part-fill-both-end : tie.Need-part-fill-both-end
+part-fill-both-end c = search needs
+
+fill-both-requires : tie.Need-fill-both-requires
+fill-both-requires c κs = search needs
 
 same-length : tie.Need-same-length
 same-length c = search needs
 
 returns-3 : tie.Need-returns-3
 returns-3 c =
-    let at-splice = c .before .before in
-    let at-if2 = c .before .before .before .before .before in
-    let at-byte-at2 = c .before .before .before .before .before .before in
-    let at-byte-at = c .before .before .before .before .before .before .before in
-    let at-if1 = c .before .before .before .before .before .before .before .before in
-    take-done (at-if1 .if1 .left) (at-byte-at .byte-at .ensures) (sym (at-byte-at2 .byte-at2 .ensures) ∙ at-if2 .if2 .left) (at-splice .splice .ensures)
+    let at-fill-both = c .before .before in
+    let at-if2 = c .before .before .before .before .before .before in
+    let at-byte-at2 = c .before .before .before .before .before .before .before in
+    let at-byte-at = c .before .before .before .before .before .before .before .before in
+    let at-if1 = c .before .before .before .before .before .before .before .before .before in
+    take-done (at-if1 .if1 .left) (at-byte-at .byte-at .ensures) (sym (at-byte-at2 .byte-at2 .ensures) ∙ at-if2 .if2 .left) (at-fill-both .fill-both .ensures)
 
 pub take-spec : {M : Type 1} → statement M
 take-spec =
@@ -57,13 +66,15 @@ take-spec =
     (tie.spec
     shared-slice-read-if1
     returns
-    add-byte-at
     byte-at-requires
     cast-l
-    add-byte-at-2
+    add-byte-at
     byte-at-requires-2
     returns-2
-    slice-aggregate-splice
-    splice-requires
+    slice-aggregate-fill-both
+    sub-fill-both
+    part-fill-both-start
+    part-fill-both-end
+    fill-both-requires
     same-length
     returns-3)

@@ -8,10 +8,9 @@ shared-slice-read-if1 : tie.Need-shared-slice-read-if1
 shared-slice-read-if1 c = search needs
 
 returns : tie.Need-returns
-returns c = write-stuck (c .if1 .taken)
-
-add-byte-at : tie.Need-add-byte-at
-add-byte-at c = search needs
+returns c =
+    let at-if1 = c in
+    write-stuck (at-if1 .if1 .taken)
 
 byte-at-requires : tie.Need-byte-at-requires
 byte-at-requires c κs = search needs
@@ -23,24 +22,27 @@ sub-if2 : tie.Need-sub-if2
 sub-if2 c = search needs
 
 returns-2 : tie.Need-returns-2
-returns-2 c = write-long (c .before .before .if1 .left) (c .if2 .taken)
+returns-2 c =
+    let at-if2 = c in
+    let at-if1 = c .before .before in
+    write-long (at-if1 .if1 .left) (at-if2 .if2 .taken)
 
-slice-aggregate-splice : tie.Need-slice-aggregate-splice
-slice-aggregate-splice c = search needs
+slice-aggregate-fill : tie.Need-slice-aggregate-fill
+slice-aggregate-fill c = search needs
 
-splice-requires : tie.Need-splice-requires
-splice-requires c κs = search needs
+fill-requires : tie.Need-fill-requires
+fill-requires c κs = search needs
 
 same-length : tie.Need-same-length
 same-length c = search needs
 
 returns-3 : tie.Need-returns-3
 returns-3 c =
-    let at-splice = c .before .before in
+    let at-fill = c .before .before in
     let at-if2 = c .before .before .before .before .before in
     let at-byte-at = c .before .before .before .before .before .before in
     let at-if1 = c .before .before .before .before .before .before .before in
-    write-done (at-if1 .if1 .left) (at-byte-at .byte-at .ensures) (at-if2 .if2 .left) (at-splice .splice .ensures)
+    write-done (at-if1 .if1 .left) (at-byte-at .byte-at .ensures) (at-if2 .if2 .left) (at-fill .fill .ensures)
 
 pub write-spec : {M : Type 1} → statement M
 write-spec =
@@ -48,12 +50,11 @@ write-spec =
     (tie.spec
     shared-slice-read-if1
     returns
-    add-byte-at
     byte-at-requires
     cast-j
     sub-if2
     returns-2
-    slice-aggregate-splice
-    splice-requires
+    slice-aggregate-fill
+    fill-requires
     same-length
     returns-3)

@@ -92,7 +92,7 @@ slice-aggregate-exchange c =
     let at-kind = c .before .before .before .before .before .before .before .before .before in
     let at-act = c .before .before .before .before .before .before .before .before .before .before .before .before .before .before .before in
     let at-start = c .before .before .before .before .before .before .before .before .before .before .before .before .before .before .before .before .before .before .before .before .before .before .before in
-    sym (length-take-le _ _ (omega (arith, run-room (at-start .pre) (at-act .act .ensures) (at-kind .kind .given .1) (at-if1 .if1 .left), at-act .act .kept .1 .1 .1 .1 .1 .1 .0)))
+    sym (length-take-le _ _ (omega (arith, run-room (at-start .pre) (at-act .act .ensures) (at-kind .kind .given .1) (at-if1 .if1 .left), at-act .act .kept .1 .1 .1 .1 .0)))
 
 exchange-requires : tie.Need-exchange-requires
 exchange-requires c κs = search needs

@@ -2,7 +2,7 @@
 use Prim.Native.Nat.{_-_}
 use native.Mathlib.Omega.{arith}
 use Rattle.slots.specs.Written.{Filling, filling-start, filling-on, filling-short, filling-all}
-use Rattle.slots.specs.Splice.{cut-written}
+use Rattle.slots.specs.Written.{cut-written}
 use borrow.Author.Needs.{needs}
 use Rattle.slots.proofs.put.fill.Statement.{statement}
 use Rattle.slots.proofs.put.fill.Tie as tie

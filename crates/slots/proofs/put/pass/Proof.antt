@@ -76,16 +76,29 @@ shared-slice-read-c c = search needs
 is-hit-requires : tie.Need-is-hit-requires Inv-loop μ-loop
 is-hit-requires c κs = search needs
 
+sub-fill-both : tie.Need-sub-fill-both Inv-loop μ-loop
+sub-fill-both c =
+    let at-loop = c .before .before .before .before .before in
+    at-loop .loop .inv .low
+
+part-fill-both-start : tie.Need-part-fill-both-start Inv-loop μ-loop
+part-fill-both-start c =
+    let at-loop = c .before .before .before .before .before in
+    at-loop .loop .inv .low
+
+part-fill-both-end : tie.Need-part-fill-both-end Inv-loop μ-loop
+part-fill-both-end c =
+    let at-loop = c .before .before .before .before .before in
+    at-loop .loop .inv .inside
+
 fill-both-requires : tie.Need-fill-both-requires Inv-loop μ-loop
-fill-both-requires c κs =
-    let at-loop = c .before .before .before .before .before .before in
-    (at-loop .loop .inv .low, at-loop .loop .inv .inside)
+fill-both-requires c κs = search needs
 
 same-length-3 : tie.Need-same-length-3 Inv-loop μ-loop
 same-length-3 c =
     let at-fill-both = c .before .before .before in
-    let at-loop = c .before .before .before .before .before .before .before .before .before .before in
-    at-fill-both .fill-both .kept .1 .1 .1 .1 .0 ∙ putting-length (at-loop .loop .inv)
+    let at-loop = c .before .before .before .before .before .before .before .before .before .before .before in
+    at-fill-both .fill-both .kept .1 .1 .0 ∙ putting-length (at-loop .loop .inv)
 
 same-length-4 : tie.Need-same-length-4 Inv-loop μ-loop
 same-length-4 c = search needs
@@ -94,14 +107,14 @@ returns-3 : tie.Need-returns-3 Inv-loop μ-loop
 returns-3 c =
     let at-if4 = c in
     let at-fill-both = c .before .before .before in
-    let at-if3 = c .before .before .before .before .before in
-    let at-is-hit = c .before .before .before .before .before .before in
-    let at-if2 = c .before .before .before .before .before .before .before .before in
-    let at-loop-test = c .before .before .before .before .before .before .before .before .before in
-    let at-loop = c .before .before .before .before .before .before .before .before .before .before in
+    let at-if3 = c .before .before .before .before .before .before in
+    let at-is-hit = c .before .before .before .before .before .before .before in
+    let at-if2 = c .before .before .before .before .before .before .before .before .before in
+    let at-loop-test = c .before .before .before .before .before .before .before .before .before .before in
+    let at-loop = c .before .before .before .before .before .before .before .before .before .before .before in
     putting-short (at-loop .loop .inv) (at-loop-test .loop-test .taken) (at-if2 .if2 .left)
     (sym (at-is-hit .is-hit .ensures) ∙ at-if3 .if3 .taken) (at-fill-both .fill-both .ensures)
-    (omega (arith, at-if4 .if4 .taken, at-fill-both .fill-both .kept .1 .1 .1 .1 .0))
+    (omega (arith, at-if4 .if4 .taken, at-fill-both .fill-both .kept .1 .1 .0))
 
 ended-requires : tie.Need-ended-requires Inv-loop μ-loop
 ended-requires c κs = search needs
@@ -117,14 +130,14 @@ loop-again c =
     let at-ended = c .before .before in
     let at-if4 = c .before .before .before .before in
     let at-fill-both = c .before .before .before .before .before .before .before in
-    let at-if3 = c .before .before .before .before .before .before .before .before .before in
-    let at-is-hit = c .before .before .before .before .before .before .before .before .before .before in
-    let at-if2 = c .before .before .before .before .before .before .before .before .before .before .before .before in
-    let at-loop-test = c .before .before .before .before .before .before .before .before .before .before .before .before .before in
-    let at-loop = c .before .before .before .before .before .before .before .before .before .before .before .before .before .before in
+    let at-if3 = c .before .before .before .before .before .before .before .before .before .before in
+    let at-is-hit = c .before .before .before .before .before .before .before .before .before .before .before in
+    let at-if2 = c .before .before .before .before .before .before .before .before .before .before .before .before .before in
+    let at-loop-test = c .before .before .before .before .before .before .before .before .before .before .before .before .before .before in
+    let at-loop = c .before .before .before .before .before .before .before .before .before .before .before .before .before .before .before in
     putting-value (at-loop .loop .inv) (at-loop-test .loop-test .taken) (at-if2 .if2 .left)
     (sym (at-is-hit .is-hit .ensures) ∙ at-if3 .if3 .taken) (at-fill-both .fill-both .ensures)
-    (omega (arith, at-if4 .if4 .left, at-fill-both .fill-both .kept .1 .1 .1 .1 .0)) (at-ended .ended .kept .0) (at-ended .ended .ensures)
+    (omega (arith, at-if4 .if4 .left, at-fill-both .fill-both .kept .1 .1 .0)) (at-ended .ended .kept .0) (at-ended .ended .ensures)
 
 after-requires : tie.Need-after-requires Inv-loop μ-loop
 after-requires c κs =
@@ -214,6 +227,9 @@ pass-spec =
     returns-2
     shared-slice-read-c
     is-hit-requires
+    sub-fill-both
+    part-fill-both-start
+    part-fill-both-end
     fill-both-requires
     same-length-3
     same-length-4
