@@ -6,9 +6,9 @@ use mathlib.Core.List.{List, _++_}
 use Prim.Native.Nat.{ℕ, _+_, _*_, _<_, _≤_}
 use native.Mathlib.Omega.{arith}
 use lib.Dec.{ltb}
-use lib.ListN.{length, take, drop, replicate, length-append, length-replicate, length-drop}
-use lib.Seq.{length-take-le}
+use lib.ListN.{length, take, drop, replicate}
 use borrow.Author.Tests.{lt-ltb, le-ltb, ltb-true, ltb-false}
+use Rattle.zeros.specs.First.{first-zero, first-rest}
 use Rattle.paper.specs.Base.{choose}
 use Rattle.paper.specs.Answers.{shortBuffer}
 use Rattle.paper.specs.Verdict.{Out, ok, refused}
@@ -103,10 +103,14 @@ pub record TrialPrints (image schedule s w o : List ℕ) (end : ℕ) (s′ w′ 
   pub cleared : w′ ≡ zeroed w
   pub beyond : Beyond s s′
 
+-- it is the rest that tells
+wiped-rest : (s s′ : List ℕ) → drop 49408 s′ ≡ drop 49408 s → wiped s′ ≡ wiped s
+unfolding wiped
+wiped-rest s s′ e = first-rest 49408 s′ s e
+
 module _ (input s w o : List ℕ) where
   pub trial-written : {image schedule s′ s″ w′ o′ : List ℕ} {end : ℕ} → Lent s w o → TrialPrints image schedule s w o end s′ w′ o′
       → trialText input ≡ trial sixteen image schedule → s″ ≡ wiped s′ → TrialTexts input s w o (Written end) s″ w′ o′
-  unfolding wiped
   trial-written {image} {schedule} {s′} {s″} {w′} {o′} {end} b p e f =
       let c = call-long input s w o b in
       let x = ap length e in
@@ -114,20 +118,14 @@ module _ (input s w o : List ℕ) where
       let i = p .inside in
       let z : end ≡ length (trialText input) = omega arith in
       let l : o′ ≡ laid (trial sixteen image schedule) o = put-laid (omega arith) (p .text) in
-      let r : s″ ≡ wiped s = f ∙ ap (λ (t : List ℕ). replicate 49408 0 ++ t) (p .beyond .rest) in
+      let r : s″ ≡ wiped s = f ∙ wiped-rest s s′ (p .beyond .rest) in
       let k = p .cleared in
       record { says = cc; state = cc; work = cc; out = cc }
 
 -- the first bytes came back cleared
-module _ (s z : List ℕ) (h : 49408 ≤ length s) (e : z ≡ replicate (length (take 49408 s)) 0) where
-  pub wiped-by : z ++ drop 49408 s ≡ wiped s
-  unfolding wiped
-  wiped-by = ap (λ (x : List ℕ). x ++ drop 49408 s) (e ∙ ap (λ (n : ℕ). replicate n 0) (length-take-le 49408 s h))
-
-  pub wiped-length : length (z ++ drop 49408 s) ≡ length s
-  wiped-length =
-      let l = ap length e ∙ length-replicate (length (take 49408 s)) 0 ∙ length-take-le 49408 s h in
-      omega (arith, length-append z (drop 49408 s), length-drop 49408 s)
+pub wiped-by : (s z : List ℕ) → 49408 ≤ length s → z ≡ replicate (length (take 49408 s)) 0 → z ++ drop 49408 s ≡ wiped s
+unfolding wiped
+wiped-by s z h e = first-zero 49408 s z h e
 
 -- ---- no second answer and no other buffers fit the statement
 

@@ -1,10 +1,9 @@
 -- `trial_text` meets its contract: a buffer is too short, or the text is written and the state cleared.
-use mathlib.Core.Path.{_∙_}
-use mathlib.Core.Path.{sym}
+use mathlib.Core.Path.{sym, _∙_}
 use native.Mathlib.Omega.{arith}
 use lib.Seq.{length-take-le}
-use Rattle.texts.specs.TrialText.{wiped-by, wiped-length}
-use Rattle.texts.specs.TrialText.{short-state, short-work, short-text, trial-short, trial-written}
+use Rattle.zeros.specs.First.{first-length}
+use Rattle.texts.specs.TrialText.{short-state, short-work, short-text, trial-short, wiped-by, trial-written}
 use Rattle.texts.specs.Input.{trial-cut}
 use borrow.Author.Needs.{needs}
 use Rattle.texts.proofs.trial.trial_text.Statement.{statement}
@@ -65,7 +64,7 @@ same-length c =
     let at-clear = c .before .before in
     let at-image-text = c .before .before .before .before .before .before .before .before .before .before in
     let at-if1 = c .before .before .before .before .before .before .before .before .before .before .before .before .before .before .before .before .before .before .before .before in
-    wiped-length (at-image-text .image-text .last .1 .1 .0) (at-clear .clear .last .0) (omega (arith, at-if1 .if1 .left, at-image-text .image-text .ensures .beyond .kept)) (at-clear .clear .ensures) ∙ at-image-text .image-text .ensures .beyond .kept
+    first-length 49408 (at-image-text .image-text .last .1 .1 .0) (at-clear .clear .last .0) (omega (arith, at-if1 .if1 .left, at-image-text .image-text .ensures .beyond .kept)) (at-clear .clear .ensures) ∙ at-image-text .image-text .ensures .beyond .kept
 
 same-length-2 : tie.Need-same-length-2
 same-length-2 c = search needs
