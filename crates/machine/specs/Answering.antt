@@ -1,7 +1,7 @@
 -- The contract of the step on a buffer that holds a state, and what its parts are handed.
 use mathlib.Core.Path.{_≡_, refl, sym, ap, _∙_}
 use mathlib.Core.List.{List}
-use Prim.Native.Nat.{ℕ, _<_, _≤_}
+use Prim.Native.Nat.{ℕ, _*_, _<_, _≤_}
 use lib.ListN.{length, getD}
 use mathlib.Core.Bool.{false}
 use Rattle.paper.specs.Terms.{Term, termBytes, value}
@@ -72,7 +72,7 @@ pub record Held (card : Card) (state : List ℕ) : Type 0 where
 pub record Scratch (old out stack : List ℕ) : Type 0 where
   pub copy : length old ≡ 2048
   pub after : length out ≡ 2048
-  pub deep : length stack ≡ 2048
+  pub deep : length stack ≡ 4096
 
 -- a buffer keeps its length
 pub scratch-kept : {old out stack old′ out′ stack′ : List ℕ} → Scratch old out stack → length old′ ≡ length old → length out′ ≡ length out
@@ -87,4 +87,4 @@ pub record Running (card : Card) (state : List ℕ) (i : ℕ) (d : Due) (s out s
   pub parted : Parted (termBytes (getD (base .held .threads) i Term.unit)) d
   pub bytes : s ≡ termBytes (found (getD (base .held .threads) i Term.unit) .redex)
   pub room : card .threadBytes ≤ length out
-  pub deep : card .threadBytes ≤ length stack
+  pub deep : 2 * card .threadBytes ≤ length stack

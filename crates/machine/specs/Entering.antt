@@ -125,7 +125,7 @@ module _ {card : Card} {state : List ℕ} (w : Held card state) {i : ℕ} where
           held-all = all-of y l (let c = part-cut there in let t = there .to in let s = w .short in omega (arith, slot .fits)) .0
 
           pub held-running : {v : Bool} {out stack : List ℕ} → v ≡ isValue (getD state (256 + card .threadBytes * i) 0) → v ≡ false
-              → length out ≡ 2048 → length stack ≡ 2048 → Running card state i d (take r old) out stack
+              → length out ≡ 2048 → length stack ≡ 4096 → Running card state i d (take r old) out stack
           held-running v e o k =
               let s = w .short in
               record {

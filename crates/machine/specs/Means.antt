@@ -40,9 +40,9 @@ pub record Cut3 (s : List ℕ) (a b c d : ℕ) : Type 0 where
   pub third : c < d
   pub inside : d ≤ length s
 
--- no part of s is longer than the lent stack
+-- the lent stack is long enough for a pass over any part of s
 pub record Short (s stack : List ℕ) : Type 0 where
-  pub long : length s ≤ length stack
+  pub long : 2 * length s ≤ length stack
 
 -- where the cells' slots are, and how large: their places are numbers of the machine
 pub record Sized (from size : ℕ) : Type 0 where

@@ -74,6 +74,6 @@ pub fn default_run(state: &mut [u8], limit: u64) -> DefaultRun
     }
     let mut old = [0u8; 2048];
     let mut out = [0u8; 2048];
-    let mut stack = [0u8; 2048];
+    let mut stack = [0u8; 4096];
     default_held(state, limit, SIXTEEN, &mut old, &mut out, &mut stack)
 }

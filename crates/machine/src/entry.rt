@@ -16,6 +16,6 @@ pub fn step(state: &mut [u8], thread: u64) -> Step
     }
     let mut old = [0u8; 2048];
     let mut out = [0u8; 2048];
-    let mut stack = [0u8; 2048];
+    let mut stack = [0u8; 4096];
     step_held(state, thread, SIXTEEN, &mut old, &mut out, &mut stack)
 }

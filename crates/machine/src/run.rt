@@ -61,6 +61,6 @@ pub fn run(state: &mut [u8], schedule: &[u8]) -> Ran
     }
     let mut old = [0u8; 2048];
     let mut out = [0u8; 2048];
-    let mut stack = [0u8; 2048];
+    let mut stack = [0u8; 4096];
     run_held(state, schedule, SIXTEEN, &mut old, &mut out, &mut stack)
 }

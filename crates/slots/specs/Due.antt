@@ -148,6 +148,13 @@ module _ (c : ℕ) where
   unfolding pushOf
   push-three k = rw k
 
+  pub push≤two : pushOf c ≤ 2
+  push≤two = go (eqb (kidsOf c) 1) refl
+    where
+      go : (b : Bool) → eqb (kidsOf c) 1 ≡ b → pushOf c ≤ 2
+      go true e = omega (arith, push-one (eqb-true (kidsOf c) 1 e), bind1≤ c)
+      go false e = omega (arith, push-more (eqb-false (kidsOf c) 1 e), kids≤ c)
+
   push≤kids : pushOf c ≤ kidsOf c
   push≤kids = go (eqb (kidsOf c) 1) refl
     where

@@ -2,21 +2,18 @@
 use mathlib.Core.Path.{_≡_, refl, sym, ap, _∙_}
 use mathlib.Core.Bool.{Bool, true, false, cond}
 use mathlib.Core.List.{List, [], _∷_, _++_, append-assoc, append-nil}
-use Prim.Native.Nat.{ℕ, suc, _+_, _≤_}
+use Prim.Native.Nat.{ℕ, suc, _+_, _*_, _≤_}
 use native.Mathlib.Nat.{add-zero}
 use native.Mathlib.Numerals.{add-one}
-use native.Mathlib.Omega.{arith}
 use lib.Dec.{eqb}
 use lib.ListN.{length}
-use borrow.Author.Tests.{le-ltb, ne-eqb}
+use borrow.Author.Tests.{le-ltb}
 use Rattle.paper.specs.Base.{choose, bytes4}
 use Rattle.paper.specs.Terms.{Term, termBytes, put}
 use Rattle.slots.specs.Codes.{fieldOf, kidsOf, bind1, bind2}
-use Rattle.slots.specs.Walk.{skipOf}
 use Rattle.slots.specs.Due.{Due, due, ended, after, scope-ends}
 use Rattle.slots.specs.Put.{putBytes, putOf, putIn}
 use Rattle.slots.specs.PutBytes.{put-over}
-use Rattle.slots.specs.TermAt.{some-bytes, skip-term}
 
 variable : (d i : ℕ) (st q : List ℕ) (v : Term) (b : Bool)
     → cond b (termBytes v ++ putBytes q (termBytes v) 0 (ended d st)) (3 ∷ i ∷ putBytes q (termBytes v) 0 (ended d st))
@@ -94,17 +91,11 @@ put-term (Term.cond a b e) v d st q =
 
 -- `put` makes the bytes of the term with the value put for its outermost variable, whatever follows the term's bytes
 module _ (t v : Term) (q : List ℕ) where
-  whole : putBytes (termBytes t ++ q) (termBytes v) 0 (due 0 []) ≡ termBytes (put 0 v t)
-  unfolding ended
-  whole =
+  pub put-of-term : putOf (termBytes t ++ q) (termBytes v) ≡ termBytes (put 0 v t)
+  unfolding putOf ended
+  put-of-term =
       put-term t v 0 [] q ∙ ap (λ (l : List ℕ). termBytes (put 0 v t) ++ l) (put-over q (termBytes v)) ∙ append-nil (termBytes (put 0 v t))
 
-  pub put-of-term : putOf (termBytes t ++ q) (termBytes v) ≡ termBytes (put 0 v t)
-  unfolding putOf
-  put-of-term =
-      let n : skipOf (termBytes t ++ q) 0 ≡ 0 → ⊥ = λ z. omega (arith, z, skip-term (termBytes t ++ q) 0 t q refl, some-bytes t) in
-      rw (ne-eqb _ _ n) whole
-
-  pub put-whole : (room : ℕ) → length (termBytes t ++ q) ≤ room → putIn room (termBytes t ++ q) (termBytes v) ≡ termBytes (put 0 v t)
+  pub put-whole : (room : ℕ) → 2 * length (termBytes t ++ q) ≤ room → putIn room (termBytes t ++ q) (termBytes v) ≡ termBytes (put 0 v t)
   unfolding putIn
   put-whole room h = rw (le-ltb _ _ h) put-of-term

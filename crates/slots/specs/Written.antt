@@ -83,10 +83,6 @@ module _ {res before after : List ℕ} {r : ℕ} (w : Written res before after r
 pub written-all : (res before : List ℕ) → length res ≤ length before → Written res before (laid res before) (length res)
 written-all res before h = record { says = sym (room-fits res before h); bytes = sym (over-fits res before h) }
 
-pub written-none : (before : List ℕ) → Written [] before before 0
-unfolding laid
-written-none before = written-all [] before (omega arith)
-
 -- ---- one after the other
 
 -- x stands first in d, n bytes, with the rest of it as before

@@ -1,14 +1,13 @@
--- What is written, the stretch up to here and what is to come are the whole; an expression that is all there leaves room on the stack
--- (`PutLoop`).
-use mathlib.Core.Path.{refl, sym, _∙_}
+-- What is written, the stretch up to here and what is to come are the whole; no bytes take more of the stack than there is (`PutLoop`).
+use mathlib.Core.Path.{sym, _∙_}
 use mathlib.Core.List.{_++_}
 use Prim.Native.Nat.{_-_}
 use native.Mathlib.Omega.{arith}
 use lib.ListN.{length, take}
-use Rattle.slots.specs.Put.{putOf}
-use Rattle.slots.specs.PutLoop.{Putting, putting-none, putting-start, putting-end, putting-over, putting-length}
-use Rattle.slots.specs.PutLoop.{putting-inside, putting-short, putting-value, putting-stack, putting-code}
 use borrow.Author.Needs.{needs}
+use Rattle.slots.specs.Put.{putOf}
+use Rattle.slots.specs.PutLoop.{Putting, putting-start, putting-end, putting-over, putting-length}
+use Rattle.slots.specs.PutLoop.{putting-short, putting-value, putting-stack, putting-code}
 use Rattle.slots.proofs.put.pass.Statement.{statement}
 use Rattle.slots.proofs.put.pass.Tie as tie
 
@@ -19,24 +18,10 @@ Inv-loop src v dst₀ at stack₀ next₀ out₀ from₀ i₀ dst stack next out
 abbrev μ-loop : tie.MeasureT-loop
 μ-loop src v dst₀ at stack₀ next₀ out₀ from₀ i₀ dst stack next out from i = length src - i
 
-skip-requires : tie.Need-skip-requires Inv-loop μ-loop
-skip-requires c κs = search needs
-
-returns : tie.Need-returns Inv-loop μ-loop
-returns c =
-    let at-if1 = c in
-    let at-skip = c .before in
-    let at-start = c .before .before .before .before .before .before in
-    putting-none (at-start .args .src .now) (at-start .args .v .now) (at-start .args .dst .now) (at-start .args .at) (at-start .pre .0)
-    (sym (at-skip .skip .ensures .says) ∙ at-if1 .if1 .taken)
-
 loop-holds : tie.Need-loop-holds Inv-loop μ-loop
 loop-holds c =
-    let at-if1 = c in
-    let at-skip = c .before in
-    let at-start = c .before .before .before .before .before .before in
-    putting-start (at-start .args .src .now) (at-start .args .v .now) (at-start .args .dst .now) (at-start .args .at) (at-start .pre .0)
-    (at-start .args .stack .now) (λ z. at-if1 .if1 .left (at-skip .skip .ensures .says ∙ z)) (at-start .pre .1)
+    let at-start = c .before .before .before .before in
+    putting-start (at-start .args .src .now) (at-start .args .v .now) (at-start .args .dst .now) (at-start .args .at) (at-start .pre .0) (at-start .args .stack .now) (at-start .pre .1)
 
 sub-fill : tie.Need-sub-fill Inv-loop μ-loop
 sub-fill c =
@@ -63,12 +48,12 @@ same-length c =
 same-length-2 : tie.Need-same-length-2 Inv-loop μ-loop
 same-length-2 c = search needs
 
-returns-2 : tie.Need-returns-2 Inv-loop μ-loop
-returns-2 c =
+returns : tie.Need-returns Inv-loop μ-loop
+returns c =
     let at-fill = c .before .before in
-    let at-if2 = c .before .before .before .before .before in
+    let at-if1 = c .before .before .before .before .before in
     let at-loop = c .before .before .before .before .before .before .before in
-    putting-over (at-loop .loop .inv) (at-fill .fill .ensures) (at-if2 .if2 .taken)
+    putting-over (at-loop .loop .inv) (at-if1 .if1 .taken) (at-fill .fill .ensures)
 
 shared-slice-read-c : tie.Need-shared-slice-read-c Inv-loop μ-loop
 shared-slice-read-c c = search needs
@@ -88,8 +73,7 @@ part-fill-both-start c =
 
 part-fill-both-end : tie.Need-part-fill-both-end Inv-loop μ-loop
 part-fill-both-end c =
-    let at-loop = c .before .before .before .before .before in
-    at-loop .loop .inv .inside
+    search needs
 
 fill-both-requires : tie.Need-fill-both-requires Inv-loop μ-loop
 fill-both-requires c κs = search needs
@@ -103,18 +87,16 @@ same-length-3 c =
 same-length-4 : tie.Need-same-length-4 Inv-loop μ-loop
 same-length-4 c = search needs
 
-returns-3 : tie.Need-returns-3 Inv-loop μ-loop
-returns-3 c =
-    let at-if4 = c in
+returns-2 : tie.Need-returns-2 Inv-loop μ-loop
+returns-2 c =
+    let at-if3 = c in
     let at-fill-both = c .before .before .before in
-    let at-if3 = c .before .before .before .before .before .before in
+    let at-if2 = c .before .before .before .before .before .before in
     let at-is-hit = c .before .before .before .before .before .before .before in
-    let at-if2 = c .before .before .before .before .before .before .before .before .before in
+    let at-if1 = c .before .before .before .before .before .before .before .before .before in
     let at-loop-test = c .before .before .before .before .before .before .before .before .before .before in
     let at-loop = c .before .before .before .before .before .before .before .before .before .before .before in
-    putting-short (at-loop .loop .inv) (at-loop-test .loop-test .taken) (at-if2 .if2 .left)
-    (sym (at-is-hit .is-hit .ensures) ∙ at-if3 .if3 .taken) (at-fill-both .fill-both .ensures)
-    (omega (arith, at-if4 .if4 .taken, at-fill-both .fill-both .kept .1 .1 .0))
+    putting-short (at-loop .loop .inv) (at-loop-test .loop-test .taken) (at-if1 .if1 .left) (sym (at-is-hit .is-hit .ensures) ∙ at-if2 .if2 .taken) (at-fill-both .fill-both .ensures) (omega (arith, at-if3 .if3 .taken, at-fill-both .fill-both .kept .1 .1 .0))
 
 ended-requires : tie.Need-ended-requires Inv-loop μ-loop
 ended-requires c κs = search needs
@@ -128,33 +110,21 @@ loop-less c = search needs
 loop-again : tie.Need-loop-again Inv-loop μ-loop
 loop-again c =
     let at-ended = c .before .before in
-    let at-if4 = c .before .before .before .before in
+    let at-if3 = c .before .before .before .before in
     let at-fill-both = c .before .before .before .before .before .before .before in
-    let at-if3 = c .before .before .before .before .before .before .before .before .before .before in
+    let at-if2 = c .before .before .before .before .before .before .before .before .before .before in
     let at-is-hit = c .before .before .before .before .before .before .before .before .before .before .before in
-    let at-if2 = c .before .before .before .before .before .before .before .before .before .before .before .before .before in
+    let at-if1 = c .before .before .before .before .before .before .before .before .before .before .before .before .before in
     let at-loop-test = c .before .before .before .before .before .before .before .before .before .before .before .before .before .before in
     let at-loop = c .before .before .before .before .before .before .before .before .before .before .before .before .before .before .before in
-    putting-value (at-loop .loop .inv) (at-loop-test .loop-test .taken) (at-if2 .if2 .left)
-    (sym (at-is-hit .is-hit .ensures) ∙ at-if3 .if3 .taken) (at-fill-both .fill-both .ensures)
-    (omega (arith, at-if4 .if4 .left, at-fill-both .fill-both .kept .1 .1 .0)) (at-ended .ended .kept .0) (at-ended .ended .ensures)
+    putting-value (at-loop .loop .inv) (at-loop-test .loop-test .taken) (at-if1 .if1 .left) (sym (at-is-hit .is-hit .ensures) ∙ at-if2 .if2 .taken) (at-fill-both .fill-both .ensures) (omega (arith, at-if3 .if3 .left, at-fill-both .fill-both .kept .1 .1 .0)) (at-ended .ended .kept .0) (at-ended .ended .ensures)
 
 after-requires : tie.Need-after-requires Inv-loop μ-loop
 after-requires c κs =
-    let at-if3 = c .before in
-    let at-is-hit = c .before .before in
-    let at-if2 = c .before .before .before .before in
+    let at-if1 = c .before .before .before .before in
     let at-loop-test = c .before .before .before .before .before in
     let at-loop = c .before .before .before .before .before .before in
-    record {
-      top = omega (
-        arith,
-        putting-stack (at-loop .loop .inv) (at-loop-test .loop-test .taken) (at-if2 .if2 .left)
-            (sym (at-is-hit .is-hit .ensures) ∙ at-if3 .if3 .left) _ refl,
-        at-loop .loop .inv .long,
-      );
-      deep = omega (arith, at-loop .loop .inv .deep, at-loop .loop .inv .long);
-    }
+    record { top = putting-stack (at-loop .loop .inv) (at-loop-test .loop-test .taken) (at-if1 .if1 .left); deep = omega (arith, at-loop .loop .inv .deep, at-loop .loop .inv .long, at-loop-test .loop-test .taken) }
 
 fields-requires : tie.Need-fields-requires Inv-loop μ-loop
 fields-requires c κs = search needs
@@ -172,20 +142,22 @@ loop-again-2 : tie.Need-loop-again-2 Inv-loop μ-loop
 loop-again-2 c =
     let at-fields = c in
     let at-after = c .before .before .before in
-    let at-if3 = c .before .before .before .before .before in
+    let at-if2 = c .before .before .before .before .before in
     let at-is-hit = c .before .before .before .before .before .before in
-    let at-if2 = c .before .before .before .before .before .before .before .before in
+    let at-if1 = c .before .before .before .before .before .before .before .before in
     let at-loop-test = c .before .before .before .before .before .before .before .before .before in
     let at-loop = c .before .before .before .before .before .before .before .before .before .before in
-    putting-code (at-loop .loop .inv) (at-loop-test .loop-test .taken) (at-if2 .if2 .left)
-    (sym (at-is-hit .is-hit .ensures) ∙ at-if3 .if3 .left) (at-fields .fields .result) (at-fields .fields .ensures .says)
-    (at-after .after .kept .0) (at-after .after .ensures)
+    putting-code (at-loop .loop .inv) (at-loop-test .loop-test .taken) (at-if1 .if1 .left) (sym (at-is-hit .is-hit .ensures) ∙ at-if2 .if2 .left) (at-fields .fields .result) (at-fields .fields .ensures .says) (at-after .after .kept .0) (at-after .after .ensures)
 
 sub-fill-2 : tie.Need-sub-fill-2 Inv-loop μ-loop
-sub-fill-2 c = search needs
+sub-fill-2 c =
+    let at-loop = c .before in
+    at-loop .loop .inv .inside
 
 part-fill-start-2 : tie.Need-part-fill-start-2 Inv-loop μ-loop
-part-fill-start-2 c = search needs
+part-fill-start-2 c =
+    let at-loop = c .before in
+    at-loop .loop .inv .inside
 
 part-fill-end-2 : tie.Need-part-fill-end-2 Inv-loop μ-loop
 part-fill-end-2 c = search needs
@@ -202,12 +174,12 @@ same-length-5 c =
 same-length-6 : tie.Need-same-length-6 Inv-loop μ-loop
 same-length-6 c = search needs
 
-returns-4 : tie.Need-returns-4 Inv-loop μ-loop
-returns-4 c =
+returns-3 : tie.Need-returns-3 Inv-loop μ-loop
+returns-3 c =
     let at-fill2 = c .before .before in
     let at-loop-test = c .before .before .before .before .before in
     let at-loop = c .before .before .before .before .before .before in
-    putting-end (at-loop .loop .inv) (at-fill2 .fill2 .ensures) (at-loop-test .loop-test .left)
+    putting-end (at-loop .loop .inv) (at-loop-test .loop-test .left) (at-fill2 .fill2 .ensures)
 
 pub pass-spec : {M : Type 1} → statement M
 pass-spec =
@@ -215,8 +187,6 @@ pass-spec =
     (tie.spec
     Inv-loop
     μ-loop
-    skip-requires
-    returns
     loop-holds
     sub-fill
     part-fill-start
@@ -224,7 +194,7 @@ pass-spec =
     fill-requires
     same-length
     same-length-2
-    returns-2
+    returns
     shared-slice-read-c
     is-hit-requires
     sub-fill-both
@@ -233,7 +203,7 @@ pass-spec =
     fill-both-requires
     same-length-3
     same-length-4
-    returns-3
+    returns-2
     ended-requires
     add-i
     loop-less
@@ -250,4 +220,4 @@ pass-spec =
     fill-requires-2
     same-length-5
     same-length-6
-    returns-4)
+    returns-3)

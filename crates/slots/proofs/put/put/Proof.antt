@@ -1,10 +1,11 @@
--- The pass is lent as much of the stack as src is long, and so is the clearing after it: `Lent` puts the two together.
+-- The pass is lent as much of the stack as twice src, and so is the clearing after it: `Lent` puts the two together.
 use mathlib.Core.Path.{sym}
+use Prim.Native.Nat.{_*_}
 use native.Mathlib.Omega.{arith}
 use lib.ListN.{length}
+use borrow.Author.Needs.{needs}
 use Rattle.slots.specs.Lent.{lent-length, lent-again, swept-all}
 use Rattle.slots.specs.PutLoop.{put-short, put-by}
-use borrow.Author.Needs.{needs}
 use Rattle.slots.proofs.put.put.Statement.{statement}
 use Rattle.slots.proofs.put.put.Tie as tie
 
@@ -16,8 +17,10 @@ returns c =
     let at-if1 = c in
     let at-least = c .before in
     let at-start = c .before .before .before .before .before .before in
-    put-short (at-start .args .src .now) (at-start .args .v .now) (at-start .args .dst .now) (at-start .args .stack .now) (at-start .args .at)
-    (at-least .least .result) (at-least .least .ensures) (at-if1 .if1 .taken)
+    put-short (at-start .args .src .now) (at-start .args .v .now) (at-start .args .dst .now) (at-start .args .stack .now) (at-start .args .at) (at-least .least .result) (at-least .least .ensures) (at-if1 .if1 .taken)
+
+mul-room : tie.Need-mul-room
+mul-room c = search needs
 
 slice-relend-prefix-pass : tie.Need-slice-relend-prefix-pass
 slice-relend-prefix-pass c = search needs
@@ -26,14 +29,14 @@ slice-aggregate-pass : tie.Need-slice-aggregate-pass
 slice-aggregate-pass c =
     let at-if1 = c .before .before in
     let at-start = c .before .before .before .before .before .before .before .before in
-    lent-length (length (at-start .args .src .now)) (at-start .args .stack .now) (at-if1 .if1 .left)
+    lent-length (2 * length (at-start .args .src .now)) (at-start .args .stack .now) (omega (arith, at-if1 .if1 .left))
 
 pass-requires : tie.Need-pass-requires
 pass-requires c κs =
     let at-if1 = c .before .before in
     let at-least = c .before .before .before in
     let at-start = c .before .before .before .before .before .before .before .before in
-    (omega (arith, at-least .least .ensures), sym (lent-length (length (at-start .args .src .now)) (at-start .args .stack .now) (at-if1 .if1 .left)))
+    (omega (arith, at-least .least .ensures), sym (lent-length (2 * length (at-start .args .src .now)) (at-start .args .stack .now) (omega (arith, at-if1 .if1 .left))))
 
 slice-relend-prefix-clear : tie.Need-slice-relend-prefix-clear
 slice-relend-prefix-clear c = search needs
@@ -43,8 +46,7 @@ slice-aggregate-clear c =
     let at-pass = c .before .before .before .before .before in
     let at-if1 = c .before .before .before .before .before .before .before .before in
     let at-start = c .before .before .before .before .before .before .before .before .before .before .before .before .before .before in
-    lent-again (length (at-start .args .src .now)) (at-start .args .stack .now) (at-if1 .if1 .left) (at-pass .pass .last .1 .1 .1 .1 .0)
-    (at-pass .pass .kept .1 .1 .1 .1 .0)
+    lent-again (2 * length (at-start .args .src .now)) (at-start .args .stack .now) (omega (arith, at-if1 .if1 .left)) (at-pass .pass .last .1 .1 .1 .1 .0) (at-pass .pass .kept .1 .1 .1 .1 .0)
 
 clear-requires : tie.Need-clear-requires
 clear-requires c κs = search needs
@@ -62,10 +64,7 @@ returns-2 c =
     let at-if1 = c .before .before .before .before .before .before .before .before .before .before .before in
     let at-least = c .before .before .before .before .before .before .before .before .before .before .before .before in
     let at-start = c .before .before .before .before .before .before .before .before .before .before .before .before .before .before .before .before .before in
-    put-by (at-start .args .src .now) (at-start .args .v .now) (at-start .args .dst .now) (at-start .args .stack .now) (at-start .args .at)
-    (at-least .least .result) (at-least .least .ensures) (at-if1 .if1 .left) (at-pass .pass .ensures)
-    (swept-all (length (at-start .args .src .now)) (at-start .args .stack .now) (at-if1 .if1 .left) (at-pass .pass .last .1 .1 .1 .1 .0)
-    (at-pass .pass .kept .1 .1 .1 .1 .0) (at-clear .clear .last .0) (at-clear .clear .ensures))
+    put-by (at-start .args .src .now) (at-start .args .v .now) (at-start .args .dst .now) (at-start .args .stack .now) (at-start .args .at) (at-least .least .result) (at-least .least .ensures) (omega (arith, at-if1 .if1 .left)) (at-pass .pass .ensures) (swept-all (2 * length (at-start .args .src .now)) (at-start .args .stack .now) (omega (arith, at-if1 .if1 .left)) (at-pass .pass .last .1 .1 .1 .1 .0) (at-pass .pass .kept .1 .1 .1 .1 .0) (at-clear .clear .last .0) (at-clear .clear .ensures))
 
 pub put-spec : {M : Type 1} → statement M
 put-spec =
@@ -73,6 +72,7 @@ put-spec =
     (tie.spec
     least-requires
     returns
+    mul-room
     slice-relend-prefix-pass
     slice-aggregate-pass
     pass-requires
