@@ -14,11 +14,11 @@ enum-known-race c = search needs
 
 cast-below : tie.Need-cast-below
 unfolding toldRace
-cast-below c = let h = (subst (λ v. Fits (toldRace (caseOf v))) (c .before .race .given .1) (c .before .before .before .pre) _ refl) .first in omega arith
+cast-below c = let h = (subst (λ v. Fits (toldRace (caseOf v))) (c .before .race .given .1) (c .before .before .before .pre) _ refl) in omega (arith, h .first, h .second)
 
 cast-below-2 : tie.Need-cast-below-2
 unfolding toldRace
-cast-below-2 c = let h = (subst (λ v. Fits (toldRace (caseOf v))) (c .before .race .given .1) (c .before .before .before .pre) _ refl) .second in omega arith
+cast-below-2 c = let h = (subst (λ v. Fits (toldRace (caseOf v))) (c .before .race .given .1) (c .before .before .before .pre) _ refl) in omega (arith, h .first, h .second)
 
 below-requires : tie.Need-below-requires
 unfolding toldRace

@@ -21,8 +21,9 @@ slice-relend-prefix-clear c = search needs
 slice-aggregate-clear : tie.Need-slice-aggregate-clear
 slice-aggregate-clear c =
     let at-if2 = c .before in
+    let at-if1 = c .before .before in
     let at-start = c .before .before .before .before in
-    sym (length-take-le (at-start .args .size) (at-start .args .state .now) (at-if2 .if2 .left))
+    sym (length-take-le _ (at-start .args .state .now) (omega (arith, at-if1 .if1 .left, at-if2 .if2 .left)))
 
 clear-requires : tie.Need-clear-requires
 clear-requires c κs = search needs

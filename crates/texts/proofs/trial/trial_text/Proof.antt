@@ -54,7 +54,7 @@ slice-relend-prefix-clear c = search needs
 slice-aggregate-clear : tie.Need-slice-aggregate-clear
 slice-aggregate-clear c =
     let at-image-text = c .before .before .before .before .before .before .before in
-    sym (length-take-le 49408 (at-image-text .image-text .last .1 .1 .0) (omega (arith, at-image-text .image-text .ensures .beyond .kept)))
+    sym (length-take-le _ (at-image-text .image-text .last .1 .1 .0) (omega (arith, at-image-text .image-text .ensures .beyond .kept)))
 
 clear-requires : tie.Need-clear-requires
 clear-requires c κs = search needs
