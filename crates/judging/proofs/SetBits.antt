@@ -3,11 +3,9 @@ use mathlib.Core.Path.{_≡_, refl, sym, ap, ap₂, _∙_}
 use mathlib.Core.Bool.{true, false}
 use Prim.Native.Nat.{ℕ, zero, suc, _+_, _-_, _*_, _/_, _%_, _^_, _≤_, _<_, max}
 use native.Mathlib.Omega.{arith}
-use native.Mathlib.Decide.{ℕ-discrete}
-use lib.Bits.{bitAnd, bitOr, bitXor, differ, and-step, or-step, xor-step}
-use lib.Dec.{eqb}
+use lib.Bits.{bitAnd, bitOr, bitXor, differ, or-step, xor-step}
 use borrow.Author.Tests.{eq-eqb, ne-eqb}
-use Rattle.paper.specs.Sets.{Set, has, bits, union, less, within}
+use Rattle.paper.specs.Sets.{Set, has, bits, union, less}
 use Rattle.types.proofs.subtype.SetBits.{sub-bits}
 
 or-bits : (n a b : ℕ) → a < 2 ^ n → b < 2 ^ n → bits max n a b ≡ bitOr a b

@@ -1,10 +1,8 @@
--- The bytes of a type stand in a buffer at a place: in the image, in the work buffer or in a local one.
+-- What a buffer keeps: all but a stretch of it, or all but the four bytes of a set.
 use Prim.Native.Nat.{ℕ, _+_, _/_, _%_, _<_, _≤_}
 use mathlib.Core.Path.{_≡_}
 use mathlib.Core.List.{List}
 use lib.ListN.{length, getD, set}
-use Rattle.paper.specs.Base.{word32}
-use Rattle.paper.specs.Types.{Ty, unit, int, lock, ref, fun, tySize}
 
 -- s′ is as long as s, and differs from it only from a up to e
 pub record Kept (s s′ : List ℕ) (a e : ℕ) : Type 0 where

@@ -1,10 +1,9 @@
 -- A program that the judged load loads never races, whatever steps are called for: over the contracts of the public functions, so of what the
 -- code does.
-use mathlib.Core.Path.{_≡_, refl, sym, ap, _∙_, subst}
+use mathlib.Core.Path.{_≡_, sym, ap, _∙_, subst}
 use mathlib.Core.List.{List, [], _∷_}
 use Prim.Native.Nat.{ℕ}
 use Rattle.paper.specs.Base.{Bytes}
-use Rattle.paper.specs.Answers.{done, threadStuck}
 use Rattle.paper.specs.Types.{Ty}
 use Rattle.paper.specs.States.{sixteen}
 use Rattle.paper.specs.Steps.{Answer}
@@ -14,13 +13,10 @@ use Rattle.laws.specs.Cards.{sixteen-fits}
 use Rattle.laws.specs.Verdicts.{Accepted}
 use Rattle.safety.specs.Statement.{Allowed, DemandAt, AlwaysAt}
 use Rattle.safety.specs.Demand.{safe-at, safe-judged-at}
-use Rattle.states.specs.declared.races.Race.{Race}
-use Rattle.states.specs.declared.races.Race.the-variants.{NoRace}
-use Rattle.states.specs.RaceIs.{Raced, raced-one}
+use Rattle.states.specs.RaceIs.{raced-one}
 use Rattle.loads.specs.declared.entry.Loaded.the-variants.{Done}
 use Rattle.loads.specs.Contract.{RawLoads, JudgedLoads}
 use Rattle.machine.specs.declared.step.Step.{Step}
-use Rattle.machine.specs.declared.step.Step.the-variants.{IsStuck}
 use Rattle.machine.specs.Answering.{caseOf}
 use Rattle.machine.specs.Public.{Steps}
 use Rattle.promise.specs.Calls.{Run, stop, next, Moment, Safe}

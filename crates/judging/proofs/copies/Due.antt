@@ -5,7 +5,7 @@ use Prim.Native.Nat.{ℕ, zero, suc, _+_, _-_, _≤_, _<_}
 use native.Mathlib.Omega.{arith}
 use native.Mathlib.Numerals.{add-one, sub-one}
 use lib.ListN.{length, getD}
-use Rattle.paper.specs.Types.{Ty, ref, fun, tySize}
+use Rattle.paper.specs.Types.{Ty, tySize}
 use Rattle.types.specs.Holds.{Holds}
 use Rattle.judging.specs.Copies.{Some, Ends}
 use Rattle.judging.proofs.Held.{held, holds-end, by-ref, by-fun}

@@ -5,7 +5,7 @@ use mathlib.Core.List.{List}
 use Prim.Native.Nat.{ℕ, _+_, _-_}
 use lib.Bits.{or-lt, bitOr}
 use native.Mathlib.Omega.{arith}
-use lib.ListN.{length, getD, set, length-set}
+use lib.ListN.{getD, set, length-set}
 use lib.Seq.{getD-set-same}
 use Rattle.paper.specs.Sets.{union}
 use Rattle.paper.specs.Types.{Ty, unit, tySize, subtype, related, below}

@@ -1,5 +1,5 @@
 -- `judging::copies::skip` meets its contract. The invariant: what is left, with the results that are due, ends where the type does.
-use Prim.Native.Nat.{ℕ, _+_, _-_, _≤_}
+use Prim.Native.Nat.{_-_, _≤_}
 use mathlib.Core.Logic.{⊎-elim}
 use native.Mathlib.Omega.{arith}
 use borrow.Author.Needs.{needs}
@@ -9,8 +9,6 @@ use Rattle.judging.proofs.copies.Laws.{end-lock, end-leaf}
 use Rattle.judging.proofs.copies.Due.{Left, left-all, left-here, left-room, left-fun, left-ref, left-end, left-next}
 use Rattle.judging.proofs.copies.skip.Statement.{statement}
 use Rattle.judging.proofs.copies.skip.Tie as tie
-use Rattle.judging.proofs.copies.skip.Reads as reads
-use Rattle.judging.proofs.copies.skip.Lts as lts
 
 abbrev Inv-loop : tie.InvT-loop
 Inv-loop s at p₀ due₀ p due = Left s at p due × (due ≤ p)

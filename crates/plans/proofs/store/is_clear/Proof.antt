@@ -2,7 +2,6 @@
 use mathlib.Core.Path.{sym, subst}
 use mathlib.Core.Logic.{⊎-elim}
 use Prim.Native.Nat.{_-_}
-use native.Mathlib.Omega.{arith}
 use lib.ListN.{length}
 use Rattle.plans.specs.Clear.{ClearTo, clear-none, clear-off, clear-on, clear-end}
 use borrow.Author.Needs.{needs}

@@ -1,5 +1,4 @@
 -- The packed table is `fieldOf`'s own, each entry with the code counted too.
-use mathlib.Core.Path.{sym}
 use native.Mathlib.Omega.{arith}
 use Rattle.slots.specs.Codes.{fields≤, past-fields, packed-widths}
 use borrow.Author.Needs.{needs}

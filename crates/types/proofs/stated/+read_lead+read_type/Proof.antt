@@ -6,7 +6,7 @@ use Rattle.types.proofs.stated.Leads.{lead-ended, lead-low, lead-high, 
 use Prim.Native.Nat.{ℕ, _<_, _-_, _+_, _*_, _≤_}
 use borrow.Author.Needs.{needs}
 use native.Mathlib.Omega.{arith}
-use mathlib.Core.Path.{_≡_, refl, ap, sym, _∙_, subst}
+use mathlib.Core.Path.{_≡_, refl, _∙_}
 use borrow.Fn.Kinds.{In}
 use borrow.Fn.PlainCycle.{Measures, is, falls, and}
 use Rattle.types.proofs.stated.read_lead.Reads as read-lead
