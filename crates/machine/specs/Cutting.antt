@@ -12,15 +12,15 @@ use Rattle.machine.specs.Means.{Cut, Cut2, Cut3, Part, part-cut}
 use Rattle.machine.specs.Parts.{part-first}
 use Rattle.machine.specs.Inner.{one-part, two-parts, three-parts, section-part}
 
--- the part behind that at f begins at e, or e is 0
-abbrev pub Second : List ℕ → (f e : ℕ) → Type 0
-Second s f e = (e ≡ 0 → ⊥) → e ≡ skipOf s f
+-- the second part, behind the one that stands next to the code, begins at e, or e is 0
+abbrev pub Second : List ℕ → ℕ → Type 0
+Second s e = (e ≡ 0 → ⊥) → e ≡ skipOf s 1
 
 -- the bytes are those of some term, with its second part, if it has one, at e
 pub record Redex (s : List ℕ) (e : ℕ) : Type 0 where
   pub term : Term
   pub there : Part s 0 (length s) term
-  pub second : Second s 1 e
+  pub second : Second s e
 
 -- the codes of one part that is looked at, and of two
 pub data One : ℕ → Type 0 where

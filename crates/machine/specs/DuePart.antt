@@ -25,7 +25,7 @@ pub record Parted (s : List ℕ) (d : Due) : Type 0 where
   pub used : d .used ≡ length s
   pub from : d .from ≡ placeOf s
   pub to : d .to ≡ skipOf s (d .from)
-  pub second : Second (piece s (d .from) (d .to)) 1 (d .second)
+  pub second : Second (piece s (d .from) (d .to)) (d .second)
 
 -- it is the part that the laws find
 module _ (t : Term) {p q : ℕ} (ep : p ≡ placeOf (termBytes t)) (eq : q ≡ skipOf (termBytes t) p) where

@@ -25,7 +25,7 @@ use slots::walk::skip;
 
 // Where the part behind the first begins: e, if that is known.
 fn second_from(s: &[u8], e: usize) -> usize
-    requires { ⌜ Second (now s) 1 e ⌝ }
+    requires { ⌜ Second (now s) e ⌝ }
     ensures { λ r. ⌜ r ≡ skipOf (now (s .entry)) 1 ⌝ }
 {
     if e == 0 { skip(s, 1) } else { e }

@@ -4,8 +4,9 @@ use mathlib.Core.Logic.{_⊎_, inl, inr}
 use mathlib.Core.List.{List, _++_}
 use Prim.Native.Nat.{ℕ, zero, suc, _+_, _-_, _/_, _%_, _<_, _≤_}
 use native.Mathlib.Omega.{arith}
-use lib.ListN.{length, set, take, drop, replicate, length-set, length-append, length-replicate, length-drop}
+use lib.ListN.{length, set, take, drop, replicate, length-set, length-replicate}
 use lib.Seq.{ext-getD, getD-drop, getD-set-same, getD-set-other, length-take-le}
+use Rattle.zeros.specs.First.{first-length}
 use Rattle.paper.specs.Base.{at}
 use Rattle.plans.specs.Cases.{side}
 use Rattle.plans.specs.Slots.{at-before, at-behind, zeros-at}
@@ -52,7 +53,7 @@ pub blanked-made : (size : ℕ) (s z : List ℕ) → 3 ≤ size → size ≤ len
 blanked-made size s z h l q =
     let lz : length z ≡ size = ap length q ∙ length-replicate (length (take size s)) 0 ∙ length-take-le size s l in
     let a = z ++ drop size s in
-    let la : length a ≡ length s = omega (arith, length-append z (drop size s), length-drop size s) in
+    let la : length a ≡ length s = first-length size s z l q in
     let b = set a 0 ((size - 2) / 256 % 256) in
     let lb : length b ≡ length s = length-set a 0 ((size - 2) / 256 % 256) ∙ la in
     let c = set b 1 ((size - 2) % 256) in

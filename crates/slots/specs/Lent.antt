@@ -1,5 +1,6 @@
--- The lent stack of a pass over a slot: as much of it as the slot is long is used, and zero afterwards; one that is shorter is not touched,
--- and the pass refuses. So the stack's length is the limit on a slot's, and a card with longer slots lends a longer stack.
+-- The lent stack of a pass: the first n bytes of it are used, and zero afterwards; one that is shorter is not touched, and the pass refuses. n is
+-- the slot's length, or twice that where nobody has seen that the bytes are an expression. So the stack's length is the limit on a slot's, and a
+-- card with longer slots lends a longer stack.
 use mathlib.Core.Path.{_≡_, refl, sym, ap, _∙_}
 use mathlib.Core.Bool.{Bool, true, false}
 use mathlib.Core.List.{List, _++_}
@@ -9,9 +10,10 @@ use lib.Dec.{ltb}
 use lib.ListN.{length, take, drop, replicate, length-append, length-replicate, length-drop}
 use lib.Seq.{length-take-le, drop-at}
 use borrow.Author.Tests.{lt-ltb, le-ltb, ltb-false}
+use Rattle.zeros.specs.First.{first-zero}
 use Rattle.paper.specs.Base.{choose}
 
--- the stack after a pass over n bytes
+-- the stack after a pass that is lent n bytes of it
 unfoldable pub swept : ℕ → List ℕ → List ℕ
 swept n st = choose (ltb (length st) n) (λ _. st) (λ _. replicate n 0 ++ drop n st)
 
@@ -42,6 +44,6 @@ module _ (n : ℕ) (st : List ℕ) (h : n ≤ length st) where
     pub swept-all : (y : List ℕ) → y ≡ replicate (length (take n (x ++ drop n st))) 0 → y ++ drop n (x ++ drop n st) ≡ swept n st
     unfolding swept
     swept-all y e =
-        ap (λ (l : List ℕ). l ++ drop n (x ++ drop n st)) (e ∙ ap (λ (j : ℕ). replicate j 0) (sym lent-again))
+        first-zero n (x ++ drop n st) y (omega (arith, lent-length, k, length-append x (drop n st))) e
         ∙ ap (λ (l : List ℕ). replicate n 0 ++ l) (drop-at x (drop n st) n (k ∙ sym lent-length))
         ∙ rw (le-ltb _ _ h)

@@ -1,4 +1,5 @@
-// The stack of what is open around an expression: one byte an entry, and no more entries than the slot has bytes. The caller lends it.
+// The stack of what is open around an expression: one byte an entry. An expression takes no more entries than it has bytes, and any bytes no more
+// than twice as many. The caller lends it.
 ghost use mathlib.Core.Path.{_≡_};
 ghost use mathlib.Core.List.{_∷_};
 ghost use Prim.Native.Nat.{_+_, _-_, _<_};
