@@ -12,10 +12,8 @@ use Rattle.judging.proofs.Held.{holds-same}
 use Rattle.judging.specs.Rules.{Judged, typed, refused}
 use Rattle.judging.specs.declared.work.Answer.{Answer}
 use Rattle.judging.specs.declared.work.Answer.the-variants.{Typed, Refused}
-use Rattle.judging.specs.declared.work.Step.{Step}
-use Rattle.judging.specs.declared.work.Step.the-variants.{Go, Stop}
 use Rattle.judging.specs.Work.{slot, Env, Frame, InSlot}
-use Rattle.judging.specs.Contract.{Out, StepOut, EnvChange}
+use Rattle.judging.specs.Contract.{Out, EnvChange}
 
 -- variables below v are as they were
 pub env-same : (w w′ : List ℕ) (v n : ℕ) (env : List Ty) → length w′ ≡ length w → ((i : ℕ) → i < 320 * v → getD w′ i 0 ≡ getD w i 0) → Env w v n env → Env w′ v n env
@@ -82,20 +80,3 @@ module _ (w : List ℕ) (left n next : ℕ) where
       let z : i ≡ m = cc (h .0) in
       record { type = t; is = ap (typed t) z; next-is = cc (h .0); slotted = h .1; small = subst (λ (k : ℕ). k < 2 ^ n) z (h .2) }
   out-typed (refused i q) e f = let z : _≡_ {A = ℕ} 0 1 = cc in absurd (omega arith)
-
-module _ (w : List ℕ) (left n : ℕ) where
-  pub step-stop : (j : Judged) {r : Step} {k p : ℕ} → StepOut w left n j r → r ≡ Stop k p → j ≡ refused k p
-  step-stop (typed t m) h f = let z : _≡_ {A = ℕ} 0 1 = cc (h .0) in absurd (omega arith)
-  step-stop (refused i q) {r} {k} {p} e f = let z : i ≡ k = cc in let y : q ≡ p = cc in cc
-
-  pub record Went (j : Judged) (m : ℕ) : Type 0 where
-    pub type : Ty
-    pub is : j ≡ typed type m
-    pub slotted : InSlot w left n type
-    pub small : m < 2 ^ n
-
-  pub step-go : (j : Judged) {r : Step} {m : ℕ} → StepOut w left n j r → r ≡ Go m → Went j m
-  step-go (typed t i) {r} {m} h f =
-      let z : i ≡ m = cc (h .0) in
-      record { type = t; is = ap (typed t) z; slotted = h .1; small = subst (λ (k : ℕ). k < 2 ^ n) z (h .2) }
-  step-go (refused i q) e f = let z : _≡_ {A = ℕ} 0 1 = cc in absurd (omega arith)

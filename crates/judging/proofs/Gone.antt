@@ -1,4 +1,4 @@
--- How a step goes on with a need that the code's `|` put together.
+-- An answer whose need the code's `|` put together.
 use mathlib.Core.Path.{_≡_, ap, sym, _∙_, subst}
 use Prim.Native.Nat.{ℕ, _^_, _≤_, _<_}
 use native.Mathlib.Nat.{lt-of-lt-of-le, lt-of-le-of-lt}
@@ -6,14 +6,14 @@ use lib.Pow.{pow-mono, pow-lt}
 use lib.Bits.{bitOr, or-lt}
 use Rattle.paper.specs.Sets.{union, less, single}
 use Rattle.judging.proofs.SetBits.{union-or, less-le}
-use Rattle.judging.specs.declared.work.Step.the-variants.{Go}
+use Rattle.judging.specs.declared.work.Answer.the-variants.{Typed}
 
 small : (n a : ℕ) → n ≤ 32 → a < 2 ^ n → a < 2 ^ 32
 small n a l h = lt-of-lt-of-le h (pow-mono l)
 
 -- the answer x of the code is the need y of the rules
-pub gone : (n x y : ℕ) (P : Type 0) → y ≡ x → x < 2 ^ n → P → (Go x ≡ Go y) × P × (y < 2 ^ n)
-gone n x y P e h p = (ap Go (sym e), p, subst (λ (z : ℕ). z < 2 ^ n) (sym e) h)
+pub gone : {next : ℕ} (n x y : ℕ) (P : Type 0) → y ≡ x → x < 2 ^ n → P → (Typed next x ≡ Typed next y) × P × (y < 2 ^ n)
+gone {next} n x y P e h p = (ap (Typed next) (sym e), p, subst (λ (z : ℕ). z < 2 ^ n) (sym e) h)
 
 module _ (n a b : ℕ) (l : n ≤ 32) (h : a < 2 ^ n) (k : b < 2 ^ n) where
   pub two-needs : union a b ≡ bitOr a b

@@ -2,7 +2,9 @@
 -- buffer (`Ready`); and they answer for every such reading, so that none has to be the only one.
 use Prim.Native.Nat.{ℕ, _+_, _-_, _*_, _^_, _<_, _≤_}
 use mathlib.Core.Path.{_≡_}
+use mathlib.Core.Bool.{Bool, cond}
 use mathlib.Core.List.{List}
+use lib.Bits.{bitOr}
 use lib.ListN.{length, getD}
 use Rattle.paper.specs.Types.{Ty}
 use Rattle.paper.specs.Reading.{got}
@@ -14,8 +16,6 @@ use Rattle.reading.specs.Walk.{fields, binds1, locks1, binds2}
 use Rattle.judging.specs.Rules.{Judged, typed, refused, judge}
 use Rattle.judging.specs.declared.work.Answer.{Answer}
 use Rattle.judging.specs.declared.work.Answer.the-variants.{Typed, Refused}
-use Rattle.judging.specs.declared.work.Step.{Step}
-use Rattle.judging.specs.declared.work.Step.the-variants.{Go, Stop}
 use Rattle.judging.specs.Phases.{Parts, none, one, two, three, partsOf, env1, env2, after1, after2, after3}
 use Rattle.judging.specs.Work.{slot, Env, Frame, InSlot}
 
@@ -23,10 +23,6 @@ use Rattle.judging.specs.Work.{slot, Env, Frame, InSlot}
 abbrev pub Out : List ℕ → ℕ → ℕ → ℕ → Judged → Answer → Type 0
 Out w left n next (typed t m) r = (r ≡ Typed next m) × InSlot w left n t × (m < 2 ^ n)
 Out w left n next (refused k p) r = r ≡ Refused k p
-
-abbrev pub StepOut : List ℕ → ℕ → ℕ → Judged → Step → Type 0
-StepOut w left n (typed t m) r = (r ≡ Go m) × InSlot w left n t × (m < 2 ^ n)
-StepOut w left n (refused k p) r = r ≡ Stop k p
 
 pub record Ready (img w : List ℕ) (at v n left : ℕ) : Type 0 where
   pub x : Exp
@@ -89,21 +85,22 @@ pub record Given (img w : List ℕ) (at v n left : ℕ) (x : Exp) : Type 0 where
   pub deep : v + left ≤ 64
   pub room : 40960 ≤ length w
 
-pub record First (img w w′ : List ℕ) (at n left part need : ℕ) (r : Step) : Type 0 where
+-- what is done after a part: the need of what is kept, or of the expression, which then ends at `next`; or a refusal
+pub record First (img w w′ : List ℕ) (at n left part need next : ℕ) (r : Answer) : Type 0 where
   pub kept : Kept w w′ (slot left) (slot left + 256)
-  pub says : (v : ℕ) (x : Exp) → Given img w at v n left x → place1 (partsOf x) ≡ part → (t : Ty) → InSlot w (left - 1) (n + locks1 (getD img at 0)) t → need < 2 ^ (n + locks1 (getD img at 0)) → StepOut w′ left n (after1 x t need) r
+  pub says : (v : ℕ) (x : Exp) → Given img w at v n left x → place1 (partsOf x) ≡ part → (t : Ty) → InSlot w (left - 1) (n + locks1 (getD img at 0)) t → need < 2 ^ (n + locks1 (getD img at 0)) → Out w′ left n next (after1 x t need) r
 
--- k and m are what the step after the first part kept
+-- k and m are what was kept after the first part
 abbrev pub Kept1 : Exp → Ty → ℕ → Type 0
 Kept1 x k m = (t : Ty) × (i : ℕ) × (after1 x t i ≡ typed k m)
 
-pub record Second (img w w′ : List ℕ) (at n left part m need : ℕ) (r : Step) : Type 0 where
+pub record Second (img w w′ : List ℕ) (at n left part m need next : ℕ) (r : Answer) : Type 0 where
   pub kept : Kept w w′ (slot left) (slot left + 256)
-  pub says : (v : ℕ) (x : Exp) → Given img w at v n left x → place2 (partsOf x) ≡ part → (k : Ty) → Kept1 x k m → InSlot w left n k → m < 2 ^ n → (u : Ty) → InSlot w (left - 1) n u → need < 2 ^ n → StepOut w′ left n (after2 x k m u need) r
+  pub says : (v : ℕ) (x : Exp) → Given img w at v n left x → place2 (partsOf x) ≡ part → (k : Ty) → Kept1 x k m → InSlot w left n k → m < 2 ^ n → (u : Ty) → InSlot w (left - 1) n u → need < 2 ^ n → Out w′ left n next (after2 x k m u need) r
 
-pub record Third (img w w′ : List ℕ) (at n left part m need : ℕ) (r : Step) : Type 0 where
+pub record Third (img w w′ : List ℕ) (at n left part m need next : ℕ) (r : Answer) : Type 0 where
   pub kept : Kept w w′ (slot left) (slot left + 256)
-  pub says : (v : ℕ) (x : Exp) → Given img w at v n left x → place3 (partsOf x) ≡ part → m < 2 ^ n → (u : Ty) → InSlot w (left - 1) n u → need < 2 ^ n → StepOut w′ left n (after3 x m u need) r
+  pub says : (v : ℕ) (x : Exp) → Given img w at v n left x → place3 (partsOf x) ≡ part → m < 2 ^ n → (u : Ty) → InSlot w (left - 1) n u → need < 2 ^ n → Out w′ left n next (after3 x m u need) r
 
 -- some expression stands there, and its parts so far gave types
 abbrev pub Some1 : List ℕ → List ℕ → ℕ → ℕ → ℕ → Type 0
@@ -114,6 +111,55 @@ Some2 img w at n left = (v : ℕ) × (x : Exp) × Given img w at v n left x × (
 
 abbrev pub Some3 : List ℕ → List ℕ → ℕ → ℕ → ℕ → Type 0
 Some3 img w at n left = (v : ℕ) × (x : Exp) × Given img w at v n left x × (getD img at 0 ≡ 15) × (u : Ty) × InSlot w (left - 1) n u
+
+-- A function that does it is handed only what it works on. It asks that such an expression, of a code in B, stands at the place of the image; or at
+-- some place of some image, where it is handed neither. It answers for every one that does.
+abbrev pub AskedIn1 : (ℕ → Type 0) → List ℕ → ℕ → List ℕ → ℕ → Type 0
+AskedIn1 B img at w left = (n : ℕ) × Some1 img w at n left × B (getD img at 0)
+
+abbrev pub Asked1 : (ℕ → Type 0) → List ℕ → ℕ → Type 0
+Asked1 B w left = (img : List ℕ) × (at : ℕ) × AskedIn1 B img at w left
+
+abbrev pub AnswersIn1 : (ℕ → Type 0) → List ℕ → ℕ → ℕ → List ℕ → List ℕ → ℕ → ℕ → ℕ → Answer → Type 0
+AnswersIn1 B img at part w w′ left need next r = (n : ℕ) → Some1 img w at n left → B (getD img at 0) → First img w w′ at n left part need next r
+
+abbrev pub Answers1 : (ℕ → Type 0) → ℕ → List ℕ → List ℕ → ℕ → ℕ → ℕ → Answer → Type 0
+Answers1 B part w w′ left need next r = (img : List ℕ) (at : ℕ) → AnswersIn1 B img at part w w′ left need next r
+
+-- where no refusal is at the part
+abbrev pub AnyPart1 : (ℕ → Type 0) → List ℕ → ℕ → List ℕ → List ℕ → ℕ → ℕ → ℕ → Answer → Type 0
+AnyPart1 B img at w w′ left need next r = (part : ℕ) → AnswersIn1 B img at part w w′ left need next r
+
+abbrev pub AnswersAt1 : (ℕ → Type 0) → ℕ → List ℕ → List ℕ → ℕ → ℕ → ℕ → Answer → Type 0
+AnswersAt1 B at w w′ left need next r = (img : List ℕ) → AnyPart1 B img at w w′ left need next r
+
+abbrev pub AskedIn2 : (ℕ → Type 0) → List ℕ → ℕ → List ℕ → ℕ → Type 0
+AskedIn2 B img at w left = (n : ℕ) × Some2 img w at n left × B (getD img at 0)
+
+abbrev pub Asked2 : (ℕ → Type 0) → List ℕ → ℕ → Type 0
+Asked2 B w left = (img : List ℕ) × (at : ℕ) × AskedIn2 B img at w left
+
+abbrev pub AnswersIn2 : (ℕ → Type 0) → List ℕ → ℕ → ℕ → List ℕ → List ℕ → ℕ → ℕ → ℕ → ℕ → Answer → Type 0
+AnswersIn2 B img at part w w′ left m need next r = (n : ℕ) → Some2 img w at n left → B (getD img at 0) → Second img w w′ at n left part m need next r
+
+abbrev pub Answers2 : (ℕ → Type 0) → ℕ → List ℕ → List ℕ → ℕ → ℕ → ℕ → ℕ → Answer → Type 0
+Answers2 B part w w′ left m need next r = (img : List ℕ) (at : ℕ) → AnswersIn2 B img at part w w′ left m need next r
+
+abbrev pub AnyPart2 : (ℕ → Type 0) → List ℕ → List ℕ → ℕ → ℕ → ℕ → ℕ → Answer → Type 0
+AnyPart2 B w w′ left m need next r = (part : ℕ) → Answers2 B part w w′ left m need next r
+
+abbrev pub AskedIn3 : List ℕ → ℕ → List ℕ → ℕ → Type 0
+AskedIn3 img at w left = (n : ℕ) × Some3 img w at n left
+
+abbrev pub AnswersIn3 : List ℕ → ℕ → ℕ → List ℕ → List ℕ → ℕ → ℕ → ℕ → ℕ → Answer → Type 0
+AnswersIn3 img at part w w′ left m need next r = (n : ℕ) → Some3 img w at n left → Third img w w′ at n left part m need next r
+
+-- a test of a part, where the rule goes on: with the need so far, or to a refusal at the part
+abbrev pub Tests1 : (ℕ → Type 0) → List ℕ → List ℕ → ℕ → Bool → Type 0
+Tests1 B w w′ left ok = (part need next : ℕ) → Answers1 B part w w′ left need next (cond ok (Typed next need) (Refused 11 part))
+
+abbrev pub TestsIn2 : (ℕ → Type 0) → List ℕ → ℕ → List ℕ → List ℕ → ℕ → Bool → Type 0
+TestsIn2 B img at w w′ left ok = (part m need next : ℕ) → AnswersIn2 B img at part w w′ left m need next (cond ok (Typed next (bitOr m need)) (Refused 12 part))
 
 -- the place after the expression's own fields: its first part's, or the end of one without parts
 abbrev pub Starts : List ℕ → ℕ → ℕ → ℕ → ℕ → Type 0

@@ -1,128 +1,86 @@
-// After the first part: its type stands in the slot one deeper. Each step tests it, and leaves in its own slot what the next part needs of it, or
-// the expression's type where there is no next part.
+// After the first part: its type stands in the slot one deeper. What is left in the own slot is what the next part needs of it; or the expression's
+// type where there is no next part, and then the answer is the expression's, which ends at `next`.
 use crate::copies;
 use crate::numbers::number;
 use crate::numbers::only;
 use crate::shift;
 use crate::shift::Low;
-use crate::work::Step;
+use crate::work::Answer;
 use crate::work::slot_of;
 use types::subtype;
 use types::subtype::Cmp;
 use types::subtype::Mode;
 ghost use mathlib.Core.Path.{_≡_};
-ghost use lib.ListN.{getD};
-ghost use Rattle.judging.specs.Contract.{First, Some1, Due};
+ghost use Rattle.judging.specs.Contract.{AskedIn1, Asked1, AnswersIn1, Answers1, AnyPart1, AnswersAt1, Tests1, Due};
 
-// The part is of the kind due: a Function, a Ref or a Lock.
-pub(crate) fn first_due(
-    img: &[u8],
-    at: usize,
-    part: usize,
-    work: &mut [u8],
-    locks: u8,
-    left: u8,
-    need: u32,
-    kind: u8,
-) -> Step
-    requires { ⌜ Some1 (now img) (now work) at locks left × Due (getD (now img) at 0) kind ⌝ }
-    ensures { λ r. ⌜ First (now (img .entry)) (now (work .entry)) (now (work .exit)) at locks left part need r ⌝ }
+// Whether the part is of the kind due: a Function, a Ref or a Lock.
+pub(crate) fn first_due(work: &mut [u8], left: u8, kind: u8) -> bool
+    requires { ⌜ Asked1 (λ b. Due b kind) (now work) left ⌝ }
+    ensures { λ r. ⌜ Tests1 (λ b. Due b kind) (now (work .entry)) (now (work .exit)) left r ⌝ }
 {
     let from = slot_of(left - 1);
     if work[from] != kind {
-        return Step::Stop(11, part);
+        return false;
     }
     copies::copy(work, from, slot_of(left));
-    Step::Go(need)
+    true
 }
 
-// The part is an Int, which is all that is kept of it.
-pub(crate) fn first_int(
-    img: &[u8],
-    at: usize,
-    part: usize,
-    work: &mut [u8],
-    locks: u8,
-    left: u8,
-    need: u32,
-) -> Step
-    requires { ⌜ Some1 (now img) (now work) at locks left × Due (getD (now img) at 0) 33 ⌝ }
-    ensures { λ r. ⌜ First (now (img .entry)) (now (work .entry)) (now (work .exit)) at locks left part need r ⌝ }
+// Whether the part is an Int, which is all that is kept of it.
+pub(crate) fn first_int(work: &mut [u8], left: u8) -> bool
+    requires { ⌜ Asked1 (λ b. Due b 33) (now work) left ⌝ }
+    ensures { λ r. ⌜ Tests1 (λ b. Due b 33) (now (work .entry)) (now (work .exit)) left r ⌝ }
 {
     if work[slot_of(left - 1)] != 33 {
-        return Step::Stop(11, part);
+        return false;
     }
     work[slot_of(left)] = 33;
-    Step::Go(need)
+    true
 }
 
 // A fork starts with no lock.
-pub(crate) fn first_fork(
-    img: &[u8],
-    at: usize,
-    part: usize,
-    work: &mut [u8],
-    locks: u8,
-    left: u8,
-    need: u32,
-) -> Step
-    requires { ⌜ Some1 (now img) (now work) at locks left × (getD (now img) at 0 ≡ 9) ⌝ }
-    ensures { λ r. ⌜ First (now (img .entry)) (now (work .entry)) (now (work .exit)) at locks left part need r ⌝ }
+pub(crate) fn first_fork(at: usize, work: &mut [u8], left: u8, need: u32, next: usize) -> Answer
+    requires { ⌜ Asked1 (λ b. b ≡ 9) (now work) left ⌝ }
+    ensures { λ r. ⌜ AnswersAt1 (λ b. b ≡ 9) at (now (work .entry)) (now (work .exit)) left need next r ⌝ }
 {
     if need != 0 {
-        return Step::Stop(14, at);
+        return Answer::Refused(14, at);
     }
     work[slot_of(left)] = 32;
-    Step::Go(0)
+    Answer::Typed(next, 0)
 }
 
 // Out from under the new lock, which neither the type nor the need may mention.
-pub(crate) fn first_lock(
-    img: &[u8],
-    at: usize,
-    part: usize,
-    work: &mut [u8],
-    locks: u8,
-    left: u8,
-    need: u32,
-) -> Step
-    requires { ⌜ Some1 (now img) (now work) at locks left × (getD (now img) at 0 ≡ 10) ⌝ }
-    ensures { λ r. ⌜ First (now (img .entry)) (now (work .entry)) (now (work .exit)) at locks left part need r ⌝ }
+pub(crate) fn first_lock(at: usize, work: &mut [u8], left: u8, need: u32, next: usize) -> Answer
+    requires { ⌜ Asked1 (λ b. b ≡ 10) (now work) left ⌝ }
+    ensures { λ r. ⌜ AnswersAt1 (λ b. b ≡ 10) at (now (work .entry)) (now (work .exit)) left need next r ⌝ }
 {
     let to = slot_of(left);
     copies::copy(work, slot_of(left - 1), to);
     match shift::lower(work, to) {
-        Low::Mentions => Step::Stop(15, at),
+        Low::Mentions => Answer::Refused(15, at),
         Low::Next(_) => {
             if need % 2 == 0 {
-                Step::Go(need / 2)
+                Answer::Typed(next, need / 2)
             } else {
-                Step::Stop(16, at)
+                Answer::Refused(16, at)
             }
         }
     }
 }
 
 // A read gives the content, and needs the cell's lock.
-pub(crate) fn first_read(
-    img: &[u8],
-    at: usize,
-    part: usize,
-    work: &mut [u8],
-    locks: u8,
-    left: u8,
-    need: u32,
-) -> Step
-    requires { ⌜ Some1 (now img) (now work) at locks left × (getD (now img) at 0 ≡ 7) ⌝ }
-    ensures { λ r. ⌜ First (now (img .entry)) (now (work .entry)) (now (work .exit)) at locks left part need r ⌝ }
+pub(crate) fn first_read(part: usize, work: &mut [u8], left: u8, need: u32, next: usize) -> Answer
+    requires { ⌜ Asked1 (λ b. b ≡ 7) (now work) left ⌝ }
+    ensures { λ r. ⌜ Answers1 (λ b. b ≡ 7) part (now (work .entry)) (now (work .exit)) left need next r ⌝ }
 {
     let from = slot_of(left - 1);
     if work[from] != 35 {
-        return Step::Stop(11, part);
+        return Answer::Refused(11, part);
     }
     let k = work[from + 1];
     copies::copy(work, from + 2, slot_of(left));
-    Step::Go(need | only(k))
+    Answer::Typed(next, need | only(k))
 }
 
 // A new cell's content is below the stated type.
@@ -131,27 +89,27 @@ pub(crate) fn first_cell(
     at: usize,
     part: usize,
     work: &mut [u8],
-    locks: u8,
     left: u8,
     need: u32,
-) -> Step
-    requires { ⌜ Some1 (now img) (now work) at locks left × (getD (now img) at 0 ≡ 6) ⌝ }
-    ensures { λ r. ⌜ First (now (img .entry)) (now (work .entry)) (now (work .exit)) at locks left part need r ⌝ }
+    next: usize,
+) -> Answer
+    requires { ⌜ AskedIn1 (λ b. b ≡ 6) (now img) at (now work) left ⌝ }
+    ensures { λ r. ⌜ AnswersIn1 (λ b. b ≡ 6) (now (img .entry)) at part (now (work .entry)) (now (work .exit)) left need next r ⌝ }
 {
     match subtype::related(work, slot_of(left - 1), img, at + 2, Mode::Below) {
-        Cmp::Differ => Step::Stop(12, part),
+        Cmp::Differ => Answer::Refused(12, part),
         Cmp::Next(_) => {
             let p = copies::skip(img, at + 2);
             let size = p - (at + 2);
             if 254 < size {
-                return Step::Stop(10, at);
+                return Answer::Refused(10, at);
             }
             let to = slot_of(left);
             let name = img[at + 1];
             work[to] = 35;
             work[to + 1] = name;
             copies::copy_in(img, at + 2, size, work, to + 2);
-            Step::Go(need)
+            Answer::Typed(next, need)
         }
     }
 }
@@ -161,26 +119,25 @@ pub(crate) fn first_cell(
 pub(crate) fn first_lam(
     img: &[u8],
     at: usize,
-    part: usize,
     work: &mut [u8],
-    locks: u8,
     left: u8,
     need: u32,
-) -> Step
-    requires { ⌜ Some1 (now img) (now work) at locks left × (getD (now img) at 0 ≡ 4) ⌝ }
-    ensures { λ r. ⌜ First (now (img .entry)) (now (work .entry)) (now (work .exit)) at locks left part need r ⌝ }
+    next: usize,
+) -> Answer
+    requires { ⌜ AskedIn1 (λ b. b ≡ 4) (now img) at (now work) left ⌝ }
+    ensures { λ r. ⌜ AnyPart1 (λ b. b ≡ 4) (now (img .entry)) at (now (work .entry)) (now (work .exit)) left need next r ⌝ }
 {
     let p = copies::skip(img, at + 1);
     let set = number(img, p);
     if need & set != need {
-        return Step::Stop(13, at);
+        return Answer::Refused(13, at);
     }
     let from = slot_of(left - 1);
     let q = copies::skip(work, from);
     let size = p - (at + 1);
     let rest = q - from;
     if 251 < size + rest {
-        return Step::Stop(10, at);
+        return Answer::Refused(10, at);
     }
     let mut own = [0u8; 256];
     own[0] = 36;
@@ -188,5 +145,5 @@ pub(crate) fn first_lam(
     shift::put4(&mut own, size + 1, set);
     copies::copy_in(work, from, rest, &mut own, size + 5);
     copies::copy_in(&own, 0, size + rest + 5, work, slot_of(left));
-    Step::Go(0)
+    Answer::Typed(next, 0)
 }

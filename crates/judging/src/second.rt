@@ -1,128 +1,117 @@
-// After the second and third parts: the part's type stands in the slot one deeper, and in the own slot what the first step left.
+// After the second and third parts: the part's type stands in the slot one deeper, and in the own slot what was left of the first.
 use crate::copies;
 use crate::numbers::less;
 use crate::numbers::number;
 use crate::numbers::only;
-use crate::work::Step;
+use crate::work::Answer;
 use crate::work::slot_of;
 use types::subtype;
 use types::subtype::Cmp;
 use types::subtype::Mode;
 ghost use mathlib.Core.Path.{_≡_};
-ghost use lib.ListN.{getD};
-ghost use Rattle.judging.specs.Contract.{Second, Third, Some2, Some3};
+ghost use Prim.Native.Nat.{_-_, _<_, _≤_};
+ghost use lib.Bits.{bitOr};
+ghost use Rattle.judging.specs.declared.work.Answer.the-variants.{Typed};
+ghost use Rattle.judging.specs.Copies.{Movable, Moved};
+ghost use Rattle.judging.specs.Work.{slot};
+ghost use Rattle.judging.specs.Contract.{AskedIn2, Asked2, Answers2, AnyPart2, TestsIn2, AskedIn3, AnswersIn3};
 
 // An argument is below the function's, and the result is the function's.
 pub(crate) fn second_app(
-    img: &[u8],
-    at: usize,
     part: usize,
     work: &mut [u8],
-    locks: u8,
     left: u8,
     kept: u32,
     need: u32,
-) -> Step
-    requires { ⌜ Some2 (now img) (now work) at locks left × (getD (now img) at 0 ≡ 5) ⌝ }
-    ensures { λ r. ⌜ Second (now (img .entry)) (now (work .entry)) (now (work .exit)) at locks left part kept need r ⌝ }
+    next: usize,
+) -> Answer
+    requires { ⌜ Asked2 (λ b. b ≡ 5) (now work) left ⌝ }
+    ensures { λ r. ⌜ Answers2 (λ b. b ≡ 5) part (now (work .entry)) (now (work .exit)) left kept need next r ⌝ }
 {
     let to = slot_of(left);
     match subtype::related(work, slot_of(left - 1), work, to + 1, Mode::Below) {
-        Cmp::Differ => Step::Stop(12, part),
+        Cmp::Differ => Answer::Refused(12, part),
         Cmp::Next(_) => {
             let p = copies::skip(work, to + 1);
             let set = number(work, p);
             copies::copy(work, p + 4, to);
-            Step::Go(kept | need | set)
+            Answer::Typed(next, kept | need | set)
         }
     }
 }
 
 // A written value is below the content, and the cell's lock is needed.
 pub(crate) fn second_write(
-    img: &[u8],
-    at: usize,
     part: usize,
     work: &mut [u8],
-    locks: u8,
     left: u8,
     kept: u32,
     need: u32,
-) -> Step
-    requires { ⌜ Some2 (now img) (now work) at locks left × (getD (now img) at 0 ≡ 8) ⌝ }
-    ensures { λ r. ⌜ Second (now (img .entry)) (now (work .entry)) (now (work .exit)) at locks left part kept need r ⌝ }
+    next: usize,
+) -> Answer
+    requires { ⌜ Asked2 (λ b. b ≡ 8) (now work) left ⌝ }
+    ensures { λ r. ⌜ Answers2 (λ b. b ≡ 8) part (now (work .entry)) (now (work .exit)) left kept need next r ⌝ }
 {
     let to = slot_of(left);
     match subtype::related(work, slot_of(left - 1), work, to + 2, Mode::Below) {
-        Cmp::Differ => Step::Stop(12, part),
+        Cmp::Differ => Answer::Refused(12, part),
         Cmp::Next(_) => {
             let k = work[to + 1];
             work[to] = 32;
-            Step::Go(kept | need | only(k))
+            Answer::Typed(next, kept | need | only(k))
         }
     }
 }
 
 // A section gives its lock to e2, and to nothing else.
-pub(crate) fn second_sync(
-    img: &[u8],
-    at: usize,
-    part: usize,
-    work: &mut [u8],
-    locks: u8,
-    left: u8,
-    kept: u32,
-    need: u32,
-) -> Step
-    requires { ⌜ Some2 (now img) (now work) at locks left × (getD (now img) at 0 ≡ 11) ⌝ }
-    ensures { λ r. ⌜ Second (now (img .entry)) (now (work .entry)) (now (work .exit)) at locks left part kept need r ⌝ }
+pub(crate) fn second_sync(work: &mut [u8], left: u8, kept: u32, need: u32, next: usize) -> Answer
+    requires { ⌜ Asked2 (λ b. b ≡ 11) (now work) left ⌝ }
+    ensures { λ r. ⌜ AnyPart2 (λ b. b ≡ 11) (now (work .entry)) (now (work .exit)) left kept need next r ⌝ }
 {
     let to = slot_of(left);
     let k = work[to + 1];
     copies::copy(work, slot_of(left - 1), to);
-    Step::Go(kept | less(need, k))
+    Answer::Typed(next, kept | less(need, k))
+}
+
+// The part's type is the expression's: of a let and of a then.
+pub(crate) fn second_kept(work: &mut [u8], left: u8, kept: u32, need: u32, next: usize) -> Answer
+    requires { ⌜ Movable (now work) (slot (left - 1)) (slot left) × (0 < left) × (left ≤ 64) ⌝ }
+    ensures { λ r. ⌜ Moved (now (work .entry)) (now (work .exit)) (slot (left - 1)) (slot left) × (r ≡ Typed next (bitOr kept need)) ⌝ }
+{
+    copies::copy(work, slot_of(left - 1), slot_of(left));
+    Answer::Typed(next, kept | need)
 }
 
 // Both parts are Ints.
 pub(crate) fn second_add(
-    img: &[u8],
-    at: usize,
     part: usize,
     work: &mut [u8],
-    locks: u8,
     left: u8,
     kept: u32,
     need: u32,
-) -> Step
-    requires { ⌜ Some2 (now img) (now work) at locks left × (getD (now img) at 0 ≡ 14) ⌝ }
-    ensures { λ r. ⌜ Second (now (img .entry)) (now (work .entry)) (now (work .exit)) at locks left part kept need r ⌝ }
+    next: usize,
+) -> Answer
+    requires { ⌜ Asked2 (λ b. b ≡ 14) (now work) left ⌝ }
+    ensures { λ r. ⌜ Answers2 (λ b. b ≡ 14) part (now (work .entry)) (now (work .exit)) left kept need next r ⌝ }
 {
     if work[slot_of(left - 1)] != 33 {
-        return Step::Stop(11, part);
+        return Answer::Refused(11, part);
     }
     work[slot_of(left)] = 33;
-    Step::Go(kept | need)
+    Answer::Typed(next, kept | need)
 }
 
-// The branch that is taken where the number is not 0 is below the stated type. Nothing of it is needed later: Unit is kept.
-pub(crate) fn second_cond(
-    img: &[u8],
-    at: usize,
-    part: usize,
-    work: &mut [u8],
-    locks: u8,
-    left: u8,
-    kept: u32,
-    need: u32,
-) -> Step
-    requires { ⌜ Some2 (now img) (now work) at locks left × (getD (now img) at 0 ≡ 15) ⌝ }
-    ensures { λ r. ⌜ Second (now (img .entry)) (now (work .entry)) (now (work .exit)) at locks left part kept need r ⌝ }
+// Whether the branch that is taken where the number is not 0 is below the stated type. Nothing of it is needed later: Unit is kept.
+pub(crate) fn second_cond(img: &[u8], at: usize, work: &mut [u8], left: u8) -> bool
+    requires { ⌜ AskedIn2 (λ b. b ≡ 15) (now img) at (now work) left ⌝ }
+    ensures { λ r. ⌜ TestsIn2 (λ b. b ≡ 15) (now (img .entry)) at (now (work .entry)) (now (work .exit)) left r ⌝ }
 {
     match subtype::related(work, slot_of(left - 1), img, at + 1, Mode::Below) {
-        Cmp::Differ => Step::Stop(12, part),
+        Cmp::Differ => false,
         Cmp::Next(_) => {
             work[slot_of(left)] = 32;
-            Step::Go(kept | need)
+            true
         }
     }
 }
@@ -133,20 +122,20 @@ pub(crate) fn after_third(
     at: usize,
     part: usize,
     work: &mut [u8],
-    locks: u8,
     left: u8,
     kept: u32,
     need: u32,
-) -> Step
-    requires { ⌜ Some3 (now img) (now work) at locks left ⌝ }
-    ensures { λ r. ⌜ Third (now (img .entry)) (now (work .entry)) (now (work .exit)) at locks left part kept need r ⌝ }
+    next: usize,
+) -> Answer
+    requires { ⌜ AskedIn3 (now img) at (now work) left ⌝ }
+    ensures { λ r. ⌜ AnswersIn3 (now (img .entry)) at part (now (work .entry)) (now (work .exit)) left kept need next r ⌝ }
 {
     match subtype::related(work, slot_of(left - 1), img, at + 1, Mode::Below) {
-        Cmp::Differ => Step::Stop(12, part),
+        Cmp::Differ => Answer::Refused(12, part),
         Cmp::Next(_) => {
             let p = copies::skip(img, at + 1);
             copies::copy_in(img, at + 1, p - (at + 1), work, slot_of(left));
-            Step::Go(kept | need)
+            Answer::Typed(next, kept | need)
         }
     }
 }

@@ -1,7 +1,7 @@
 // The typing: a function a rule, which calls the judge on the expression's parts from left to right, with what is left of the nesting falling at
-// each call. The code is looked at once, and each rule is called from one place, so that the compiler takes it into the judge. A rule makes its
-// answer anew: handed on as it is, a part's answer would be copied through memory. p1, p2 and p3 are the places of the parts; where a rule has more
-// than one, m is the need so far and n the next part's.
+// each call. The code is looked at once, and each rule is called from one place, so that the compiler takes it into the judge. A rule makes a
+// refusal anew: handed on as it is, a part's answer would be copied through memory. p1, p2 and p3 are the places of the parts; where a rule has more
+// than one, m and n are what the first two need.
 use crate::binding::argument;
 use crate::binding::bind;
 use crate::binding::new_name;
@@ -20,11 +20,10 @@ use crate::second::after_third;
 use crate::second::second_add;
 use crate::second::second_app;
 use crate::second::second_cond;
+use crate::second::second_kept;
 use crate::second::second_sync;
 use crate::second::second_write;
 use crate::work::Answer;
-use crate::work::Step;
-use crate::work::slot_of;
 ghost use mathlib.Core.Path.{_≡_};
 ghost use lib.ListN.{getD};
 ghost use Rattle.judging.specs.Contract.{Ready, Finds};
@@ -37,10 +36,7 @@ fn function(img: &[u8], at: usize, work: &mut [u8], vars: u8, locks: u8, left: u
     let p1 = argument(img, at, work, vars, locks, left);
     match judge(img, p1, work, vars + 1, locks, left - 1) {
         Answer::Refused(k, p) => Answer::Refused(k, p),
-        Answer::Typed(p2, need) => match first_lam(img, at, p1, work, locks, left, need) {
-            Step::Stop(k, p) => Answer::Refused(k, p),
-            Step::Go(kept) => Answer::Typed(p2, kept),
-        },
+        Answer::Typed(p2, need) => first_lam(img, at, work, left, need, p2),
     }
 }
 
@@ -52,16 +48,16 @@ fn apply(img: &[u8], at: usize, work: &mut [u8], vars: u8, locks: u8, left: u8) 
     let p1 = at + 1;
     match judge(img, p1, work, vars, locks, left - 1) {
         Answer::Refused(k, p) => Answer::Refused(k, p),
-        Answer::Typed(p2, need) => match first_due(img, at, p1, work, locks, left, need, 36) {
-            Step::Stop(k, p) => Answer::Refused(k, p),
-            Step::Go(m) => match judge(img, p2, work, vars, locks, left - 1) {
-                Answer::Refused(k, p) => Answer::Refused(k, p),
-                Answer::Typed(p3, n) => match second_app(img, at, p2, work, locks, left, m, n) {
-                    Step::Stop(k, p) => Answer::Refused(k, p),
-                    Step::Go(all) => Answer::Typed(p3, all),
-                },
-            },
-        },
+        Answer::Typed(p2, m) => {
+            if first_due(work, left, 36) {
+                match judge(img, p2, work, vars, locks, left - 1) {
+                    Answer::Refused(k, p) => Answer::Refused(k, p),
+                    Answer::Typed(p3, n) => second_app(p2, work, left, m, n, p3),
+                }
+            } else {
+                Answer::Refused(11, p1)
+            }
+        }
     }
 }
 
@@ -73,10 +69,7 @@ fn new_cell(img: &[u8], at: usize, work: &mut [u8], vars: u8, locks: u8, left: u
     let p1 = copies::skip(img, at + 2);
     match judge(img, p1, work, vars, locks, left - 1) {
         Answer::Refused(k, p) => Answer::Refused(k, p),
-        Answer::Typed(p2, need) => match first_cell(img, at, p1, work, locks, left, need) {
-            Step::Stop(k, p) => Answer::Refused(k, p),
-            Step::Go(kept) => Answer::Typed(p2, kept),
-        },
+        Answer::Typed(p2, need) => first_cell(img, at, p1, work, left, need, p2),
     }
 }
 
@@ -88,10 +81,7 @@ fn read(img: &[u8], at: usize, work: &mut [u8], vars: u8, locks: u8, left: u8) -
     let p1 = at + 1;
     match judge(img, p1, work, vars, locks, left - 1) {
         Answer::Refused(k, p) => Answer::Refused(k, p),
-        Answer::Typed(p2, need) => match first_read(img, at, p1, work, locks, left, need) {
-            Step::Stop(k, p) => Answer::Refused(k, p),
-            Step::Go(kept) => Answer::Typed(p2, kept),
-        },
+        Answer::Typed(p2, need) => first_read(p1, work, left, need, p2),
     }
 }
 
@@ -103,16 +93,16 @@ fn write(img: &[u8], at: usize, work: &mut [u8], vars: u8, locks: u8, left: u8) 
     let p1 = at + 1;
     match judge(img, p1, work, vars, locks, left - 1) {
         Answer::Refused(k, p) => Answer::Refused(k, p),
-        Answer::Typed(p2, need) => match first_due(img, at, p1, work, locks, left, need, 35) {
-            Step::Stop(k, p) => Answer::Refused(k, p),
-            Step::Go(m) => match judge(img, p2, work, vars, locks, left - 1) {
-                Answer::Refused(k, p) => Answer::Refused(k, p),
-                Answer::Typed(p3, n) => match second_write(img, at, p2, work, locks, left, m, n) {
-                    Step::Stop(k, p) => Answer::Refused(k, p),
-                    Step::Go(all) => Answer::Typed(p3, all),
-                },
-            },
-        },
+        Answer::Typed(p2, m) => {
+            if first_due(work, left, 35) {
+                match judge(img, p2, work, vars, locks, left - 1) {
+                    Answer::Refused(k, p) => Answer::Refused(k, p),
+                    Answer::Typed(p3, n) => second_write(p2, work, left, m, n, p3),
+                }
+            } else {
+                Answer::Refused(11, p1)
+            }
+        }
     }
 }
 
@@ -124,10 +114,7 @@ fn fork(img: &[u8], at: usize, work: &mut [u8], vars: u8, locks: u8, left: u8) -
     let p1 = at + 1;
     match judge(img, p1, work, vars, locks, left - 1) {
         Answer::Refused(k, p) => Answer::Refused(k, p),
-        Answer::Typed(p2, need) => match first_fork(img, at, p1, work, locks, left, need) {
-            Step::Stop(k, p) => Answer::Refused(k, p),
-            Step::Go(kept) => Answer::Typed(p2, kept),
-        },
+        Answer::Typed(p2, need) => first_fork(at, work, left, need, p2),
     }
 }
 
@@ -140,10 +127,7 @@ fn new_lock(img: &[u8], at: usize, work: &mut [u8], vars: u8, locks: u8, left: u
     let p1 = at + 1;
     match judge(img, p1, work, vars + 1, locks + 1, left - 1) {
         Answer::Refused(k, p) => Answer::Refused(k, p),
-        Answer::Typed(p2, need) => match first_lock(img, at, p1, work, locks, left, need) {
-            Step::Stop(k, p) => Answer::Refused(k, p),
-            Step::Go(kept) => Answer::Typed(p2, kept),
-        },
+        Answer::Typed(p2, need) => first_lock(at, work, left, need, p2),
     }
 }
 
@@ -155,16 +139,16 @@ fn section(img: &[u8], at: usize, work: &mut [u8], vars: u8, locks: u8, left: u8
     let p1 = at + 1;
     match judge(img, p1, work, vars, locks, left - 1) {
         Answer::Refused(k, p) => Answer::Refused(k, p),
-        Answer::Typed(p2, need) => match first_due(img, at, p1, work, locks, left, need, 34) {
-            Step::Stop(k, p) => Answer::Refused(k, p),
-            Step::Go(m) => match judge(img, p2, work, vars, locks, left - 1) {
-                Answer::Refused(k, p) => Answer::Refused(k, p),
-                Answer::Typed(p3, n) => match second_sync(img, at, p2, work, locks, left, m, n) {
-                    Step::Stop(k, p) => Answer::Refused(k, p),
-                    Step::Go(all) => Answer::Typed(p3, all),
-                },
-            },
-        },
+        Answer::Typed(p2, m) => {
+            if first_due(work, left, 34) {
+                match judge(img, p2, work, vars, locks, left - 1) {
+                    Answer::Refused(k, p) => Answer::Refused(k, p),
+                    Answer::Typed(p3, n) => second_sync(work, left, m, n, p3),
+                }
+            } else {
+                Answer::Refused(11, p1)
+            }
+        }
     }
 }
 
@@ -179,10 +163,7 @@ fn let_in(img: &[u8], at: usize, work: &mut [u8], vars: u8, locks: u8, left: u8)
             bind(img, at, work, vars, locks, left);
             match judge(img, p2, work, vars + 1, locks, left - 1) {
                 Answer::Refused(k, p) => Answer::Refused(k, p),
-                Answer::Typed(p3, n) => {
-                    copies::copy(work, slot_of(left - 1), slot_of(left));
-                    Answer::Typed(p3, m | n)
-                }
+                Answer::Typed(p3, n) => second_kept(work, left, m, n, p3),
             }
         }
     }
@@ -198,10 +179,7 @@ fn then(img: &[u8], at: usize, work: &mut [u8], vars: u8, locks: u8, left: u8) -
         Answer::Typed(p2, m) => {
             match judge(img, p2, work, vars, locks, left - 1) {
                 Answer::Refused(k, p) => Answer::Refused(k, p),
-                Answer::Typed(p3, n) => {
-                    copies::copy(work, slot_of(left - 1), slot_of(left));
-                    Answer::Typed(p3, m | n)
-                }
+                Answer::Typed(p3, n) => second_kept(work, left, m, n, p3),
             }
         }
     }
@@ -215,16 +193,16 @@ fn add(img: &[u8], at: usize, work: &mut [u8], vars: u8, locks: u8, left: u8) ->
     let p1 = at + 1;
     match judge(img, p1, work, vars, locks, left - 1) {
         Answer::Refused(k, p) => Answer::Refused(k, p),
-        Answer::Typed(p2, need) => match first_int(img, at, p1, work, locks, left, need) {
-            Step::Stop(k, p) => Answer::Refused(k, p),
-            Step::Go(m) => match judge(img, p2, work, vars, locks, left - 1) {
-                Answer::Refused(k, p) => Answer::Refused(k, p),
-                Answer::Typed(p3, n) => match second_add(img, at, p2, work, locks, left, m, n) {
-                    Step::Stop(k, p) => Answer::Refused(k, p),
-                    Step::Go(all) => Answer::Typed(p3, all),
-                },
-            },
-        },
+        Answer::Typed(p2, m) => {
+            if first_int(work, left) {
+                match judge(img, p2, work, vars, locks, left - 1) {
+                    Answer::Refused(k, p) => Answer::Refused(k, p),
+                    Answer::Typed(p3, n) => second_add(p2, work, left, m, n, p3),
+                }
+            } else {
+                Answer::Refused(11, p1)
+            }
+        }
     }
 }
 
@@ -236,31 +214,34 @@ fn conditional(img: &[u8], at: usize, work: &mut [u8], vars: u8, locks: u8, left
     let p1 = copies::skip(img, at + 1);
     match judge(img, p1, work, vars, locks, left - 1) {
         Answer::Refused(k, p) => Answer::Refused(k, p),
-        Answer::Typed(p2, need) => match first_int(img, at, p1, work, locks, left, need) {
-            Step::Stop(k, p) => Answer::Refused(k, p),
-            Step::Go(m) => match judge(img, p2, work, vars, locks, left - 1) {
-                Answer::Refused(k, p) => Answer::Refused(k, p),
-                Answer::Typed(p3, n) => match second_cond(img, at, p2, work, locks, left, m, n) {
-                    Step::Stop(k, p) => Answer::Refused(k, p),
-                    Step::Go(both) => match judge(img, p3, work, vars, locks, left - 1) {
-                        Answer::Refused(k, p) => Answer::Refused(k, p),
-                        Answer::Typed(p4, last) => match after_third(
-                            img,
-                            at,
-                            p3,
-                            work,
-                            locks,
-                            left,
-                            both,
-                            last,
-                        ) {
-                            Step::Stop(k, p) => Answer::Refused(k, p),
-                            Step::Go(all) => Answer::Typed(p4, all),
-                        },
-                    },
-                },
-            },
-        },
+        Answer::Typed(p2, m) => {
+            if first_int(work, left) {
+                match judge(img, p2, work, vars, locks, left - 1) {
+                    Answer::Refused(k, p) => Answer::Refused(k, p),
+                    Answer::Typed(p3, n) => {
+                        if second_cond(img, at, work, left) {
+                            match judge(img, p3, work, vars, locks, left - 1) {
+                                Answer::Refused(k, p) => Answer::Refused(k, p),
+                                Answer::Typed(p4, last) => after_third(
+                                    img,
+                                    at,
+                                    p3,
+                                    work,
+                                    left,
+                                    m | n,
+                                    last,
+                                    p4,
+                                ),
+                            }
+                        } else {
+                            Answer::Refused(12, p2)
+                        }
+                    }
+                }
+            } else {
+                Answer::Refused(11, p1)
+            }
+        }
     }
 }
 

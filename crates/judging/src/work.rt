@@ -9,12 +9,6 @@ pub(crate) enum Answer {
     Refused(u8, usize),
 }
 
-// On with the need so far; or a refusal and its place.
-pub(crate) enum Step {
-    Go(u32),
-    Stop(u8, usize),
-}
-
 // Where the type of a call with `left` left stands.
 pub(crate) fn slot_of(left: u8) -> usize
     requires { ⌜ left ≤ 64 ⌝ }

@@ -22,10 +22,10 @@ use Rattle.types.proofs.subtype.Says.{says, cmp-next, cmp-differ, sub-is}
 use Rattle.reading.specs.Placed as e
 use Rattle.reading.specs.Placed.{Exp, placeOf}
 use Rattle.reading.specs.Walk.{locks1}
-use Rattle.judging.specs.declared.work.Step.the-variants.{Go, Stop}
+use Rattle.judging.specs.declared.work.Answer.the-variants.{Typed, Refused}
 use Rattle.judging.specs.Phases.{partsOf, after1}
 use Rattle.judging.specs.Work.{slot}
-use Rattle.judging.specs.Contract.{StepOut, Given, First, Some1, place1}
+use Rattle.judging.specs.Contract.{Out, Given, First, Some1, place1}
 use Rattle.judging.proofs.Cases.{by-cell}
 use Rattle.judging.proofs.Node.{Facts, read-whole}
 
@@ -49,32 +49,32 @@ module _ {img w : List ℕ} {at n left : ℕ} (O : Some1 img w at n left) (ez : 
   pub cell-room : (p : ℕ) → Ends img (at + 2) p → (at + 2 ≤ p) × (p ≤ length img)
   cell-room p d = by-it (O .0) (O .1) (λ x. (at + 2 ≤ p) × (p ≤ length img)) (O .2) (λ k t a p g hk kn h wt. let z = d t h in (omega arith, omega (arith, holds-end img (at + 2) t h)))
 
-  module _ {part need : ℕ} {r : Cmp} (D : Related w (slot (left - 1)) img (at + 2) below r) where
-    pub cell-12 : r ≡ Differ → First img w w at n left part need (Stop 12 part)
+  module _ {part need next : ℕ} {r : Cmp} (D : Related w (slot (left - 1)) img (at + 2) below r) where
+    pub cell-12 : r ≡ Differ → First img w w at n left part need next (Refused 12 part)
     unfolding after1
     cell-12 f =
         record {
           kept = kept-refl w (slot left) (slot left + 256);
           says = λ v x G pl t I s.
-              by-it v x (λ x. place1 (partsOf x) ≡ part → StepOut w left n (after1 x t need) (Stop 12 part)) G
+              by-it v x (λ x. place1 (partsOf x) ≡ part → Out w left n next (after1 x t need) (Refused 12 part)) G
               (λ k c a p g hk kn h wt pl. let q : subtype t c ≡ false = sym (sub-is t c) ∙ cmp-differ (slot (left - 1) + tySize t) (related below t c) (sym f ∙ says D t c (I .there) h) in rw (q, pl)) pl;
         }
 
     module _ {q₀ p : ℕ} (f : r ≡ Next q₀) (d : Ends img (at + 2) p) where
-      pub cell-10 : 254 < p - (at + 2) → First img w w at n left part need (Stop 10 at)
+      pub cell-10 : 254 < p - (at + 2) → First img w w at n left part need next (Refused 10 at)
       unfolding after1 tySize
       cell-10 l =
           record {
             kept = kept-refl w (slot left) (slot left + 256);
             says = λ v x G pl t I s.
-                by-it v x (λ x. StepOut w left n (after1 x t need) (Stop 10 at)) G
+                by-it v x (λ x. Out w left n next (after1 x t need) (Refused 10 at)) G
                 (λ k c a p₀ g hk kn h wt.
                 let q : subtype t c ≡ true = sym (sub-is t c) ∙ cmp-next (slot (left - 1) + tySize t) q₀ (related below t c) (sym f ∙ says D t c (I .there) h) .0 in
                 let z = d c h in
                 rw (q, lt-leb (tySize c + 2) 256 (omega arith), g));
           }
 
-      pub cell-go : (w′ : List ℕ) → p - (at + 2) ≤ 254 → Copied img (at + 2) (p - (at + 2)) (set (set w (slot left) 35) (slot left + 1) (getD img (at + 1) 0)) w′ (slot left + 2) → First img w w′ at n left part need (Go need)
+      pub cell-go : (w′ : List ℕ) → p - (at + 2) ≤ 254 → Copied img (at + 2) (p - (at + 2)) (set (set w (slot left) 35) (slot left + 1) (getD img (at + 1) 0)) w′ (slot left + 2) → First img w w′ at n left part need next (Typed next need)
       unfolding after1 tySize
       cell-go w′ l c =
           let F = facts1 in
@@ -91,7 +91,7 @@ module _ {img w : List ℕ} {at n left : ℕ} (O : Some1 img w at n left) (ez : 
             kept = k₃;
             says = λ v x G pl t I s.
                 let s₁ : need < 2 ^ n = subst (λ (k : ℕ). need < 2 ^ k) (flat-locks (getD img at 0) n 6 ez (λ y. omega arith)) s in
-                by-it v x (λ x. StepOut w′ left n (after1 x t need) (Go need)) G
+                by-it v x (λ x. Out w′ left n next (after1 x t need) (Typed next need)) G
                 (λ k t₁ a p₀ g hk kn h wt.
                 let q : subtype t t₁ ≡ true = sym (sub-is t t₁) ∙ cmp-next (slot (left - 1) + tySize t) q₀ (related below t t₁) (sym f ∙ says D t t₁ (I .there) h) .0 in
                 let z = d t₁ h in

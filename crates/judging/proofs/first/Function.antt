@@ -21,11 +21,11 @@ use Rattle.judging.specs.Shift.{Within}
 use Rattle.reading.specs.Placed as e
 use Rattle.reading.specs.Placed.{Exp, placeOf}
 use Rattle.reading.specs.Walk.{locks1}
-use Rattle.judging.specs.declared.work.Step.the-variants.{Go, Stop}
+use Rattle.judging.specs.declared.work.Answer.the-variants.{Typed, Refused}
 use Rattle.types.proofs.subtype.SetBits.{within-and}
 use Rattle.judging.specs.Phases.{after1}
 use Rattle.judging.specs.Work.{slot}
-use Rattle.judging.specs.Contract.{StepOut, Given, First, Some1}
+use Rattle.judging.specs.Contract.{Out, Given, First, Some1}
 use Rattle.judging.proofs.Cases.{by-lam}
 use Rattle.judging.proofs.Node.{Facts, read-whole}
 use Rattle.judging.proofs.first.Cell.{flat-locks}
@@ -62,34 +62,34 @@ module _ {img w : List ℕ} {at n left : ℕ} (O : Some1 img w at n left) (ez : 
   fits : (need p : ℕ) → bitAnd need (word32 img p) ≡ need → need < 2 ^ (n + locks1 (getD img at 0)) → (s : ℕ) → word32 img p ≡ s → within need s ≡ true
   fits need p zs sm s z = within-and need s (need-small need sm) ∙ eq-eqb (bitAnd need s) need (ap (bitAnd need) (sym z) ∙ zs)
 
-  module _ {part need p : ℕ} (d : Ends img (at + 1) p) where
-    pub lam-13 : (bitAnd need (word32 img p) ≡ need → ⊥) → First img w w at n left part need (Stop 13 at)
+  module _ {part need next p : ℕ} (d : Ends img (at + 1) p) where
+    pub lam-13 : (bitAnd need (word32 img p) ≡ need → ⊥) → First img w w at n left part need next (Refused 13 at)
     unfolding after1
     lam-13 z =
         record {
           kept = kept-refl w (slot left) (slot left + 256);
           says = λ v x G pl t I sm.
-              by-f v x (λ x. StepOut w left n (after1 x t need) (Stop 13 at)) G
+              by-f v x (λ x. Out w left n next (after1 x t need) (Refused 13 at)) G
               (λ a s y p₀ g h wt f k.
               let q : within need s ≡ false = within-and need s (need-small need sm) ∙ ne-eqb (bitAnd need s) need (λ u. z (ap (bitAnd need) (set-is d a s h f) ∙ u)) in
               rw (q, g));
         }
 
     module _ (inset : bitAnd need (word32 img p) ≡ need) {q : ℕ} (dq : Ends w (slot (left - 1)) q) where
-      pub lam-10 : 251 < (p - (at + 1)) + (q - slot (left - 1)) → First img w w at n left part need (Stop 10 at)
+      pub lam-10 : 251 < (p - (at + 1)) + (q - slot (left - 1)) → First img w w at n left part need next (Refused 10 at)
       unfolding after1 tySize
       lam-10 l =
           record {
             kept = kept-refl w (slot left) (slot left + 256);
             says = λ v x G pl t I sm.
-                by-f v x (λ x. StepOut w left n (after1 x t need) (Stop 10 at)) G
+                by-f v x (λ x. Out w left n next (after1 x t need) (Refused 10 at)) G
                 (λ a s y p₀ g h wt f k.
                 let z₁ = d a h in
                 let z₂ = dq t (I .there) in
                 rw (fits need p inset sm s (set-is d a s h f), lt-leb (tySize a + tySize t + 5) 256 (omega arith), g));
           }
 
-      pub lam-go : (o₁ o₂ o₄ w′ : List ℕ) → (p - (at + 1)) + (q - slot (left - 1)) ≤ 251 → length o₁ ≡ 256 → Byte o₁ 0 36 → Copied img (at + 1) (p - (at + 1)) o₁ o₂ 1 → Copied w (slot (left - 1)) (q - slot (left - 1)) (put o₂ ((p - (at + 1)) + 1) (word32 img p)) o₄ ((p - (at + 1)) + 5) → Copied o₄ 0 ((p - (at + 1)) + (q - slot (left - 1)) + 5) w w′ (slot left) → First img w w′ at n left part need (Go 0)
+      pub lam-go : (o₁ o₂ o₄ w′ : List ℕ) → (p - (at + 1)) + (q - slot (left - 1)) ≤ 251 → length o₁ ≡ 256 → Byte o₁ 0 36 → Copied img (at + 1) (p - (at + 1)) o₁ o₂ 1 → Copied w (slot (left - 1)) (q - slot (left - 1)) (put o₂ ((p - (at + 1)) + 1) (word32 img p)) o₄ ((p - (at + 1)) + 5) → Copied o₄ 0 ((p - (at + 1)) + (q - slot (left - 1)) + 5) w w′ (slot left) → First img w w′ at n left part need next (Typed next 0)
       unfolding after1 tySize
       lam-go o₁ o₂ o₄ w′ l lo b₁ c₂ c₄ c =
           let F = facts4 in
@@ -98,7 +98,7 @@ module _ {img w : List ℕ} {at n left : ℕ} (O : Some1 img w at n left) (ez : 
           record {
             kept = kept-wider (c .kept) (slot left) (slot left + 256) (omega arith) (omega arith);
             says = λ v x G pl t I sm.
-                by-f v x (λ x. StepOut w′ left n (after1 x t need) (Go 0)) G
+                by-f v x (λ x. Out w′ left n next (after1 x t need) (Typed next 0)) G
                 (λ a s y p₀ g h wt f k.
                 let z₁ : p ≡ at + 1 + tySize a = d a h in
                 let z₂ : q ≡ slot (left - 1) + tySize t = dq t (I .there) in

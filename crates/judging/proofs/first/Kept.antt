@@ -16,10 +16,10 @@ use Rattle.judging.specs.Copies.{Movable, Moved}
 use Rattle.reading.specs.Placed.{Exp, placeOf}
 use Rattle.reading.specs.Walk.{locks1}
 use Rattle.judging.specs.Rules.{typed, refused, test, asFun, asRef, asLock, asInt}
-use Rattle.judging.specs.declared.work.Step.the-variants.{Go, Stop}
+use Rattle.judging.specs.declared.work.Answer.the-variants.{Typed, Refused}
 use Rattle.judging.specs.Phases.{partsOf, after1}
 use Rattle.judging.specs.Work.{slot}
-use Rattle.judging.specs.Contract.{StepOut, Given, First, Some1, place1, Due, due5, due8, due11, due14, due15}
+use Rattle.judging.specs.Contract.{Out, Given, First, Some1, place1, Due, due5, due8, due11, due14, due15}
 use Rattle.judging.proofs.Buffer.{slot-moved, slot-movable}
 use Rattle.judging.proofs.Cases.{codeNum, by-app, by-write, by-sync, by-add, by-ifNot0, by-fork}
 use Rattle.judging.proofs.Node.{read-whole}
@@ -131,9 +131,9 @@ module _ {img w : List ℕ} {at n left : ℕ} (O : Some1 img w at n left) where
   pub coded : (v : ℕ) (x : Exp) → Given img w at v n left x → codeNum x ≡ (getD img at 0)
   coded v x G = read-whole left v n img at x (G .next) (G .reads) .is .coded
 
-  module _ {part need : ℕ} where
+  module _ {part need next : ℕ} where
     -- the part's code is not the one due
-    pub due-stop : (k : ℕ) → Due (getD img at 0) k → (getD w (slot (left - 1)) 0 ≡ k → ⊥) → First img w w at n left part need (Stop 11 part)
+    pub due-stop : (k : ℕ) → Due (getD img at 0) k → (getD w (slot (left - 1)) 0 ≡ k → ⊥) → First img w w at n left part need next (Refused 11 part)
     due-stop k D z =
         record {
           kept = kept-refl w (slot left) (slot left + 256);
@@ -144,7 +144,7 @@ module _ {img w : List ℕ} {at n left : ℕ} (O : Some1 img w at n left) where
               rw y;
         }
 
-    pub due-first : (k : ℕ) (w′ : List ℕ) → Due (getD img at 0) k → getD w (slot (left - 1)) 0 ≡ k → Moved w w′ (slot (left - 1)) (slot left) → First img w w′ at n left part need (Go need)
+    pub due-first : (k : ℕ) (w′ : List ℕ) → Due (getD img at 0) k → getD w (slot (left - 1)) 0 ≡ k → Moved w w′ (slot (left - 1)) (slot left) → First img w w′ at n left part need next (Typed next need)
     due-first k w′ D z c =
         let F = facts in
         record {
@@ -157,7 +157,7 @@ module _ {img w : List ℕ} {at n left : ℕ} (O : Some1 img w at n left) where
               rw y (refl, slot-moved w w′ left n t c (rw l at I), rw l at s);
         }
 
-    pub int-first : Due (getD img at 0) 33 → getD w (slot (left - 1)) 0 ≡ 33 → First img w (set w (slot left) 33) at n left part need (Go need)
+    pub int-first : Due (getD img at 0) 33 → getD w (slot (left - 1)) 0 ≡ 33 → First img w (set w (slot left) 33) at n left part need next (Typed next need)
     unfolding tySize
     int-first D z =
         let F = facts in
@@ -171,17 +171,17 @@ module _ {img w : List ℕ} {at n left : ℕ} (O : Some1 img w at n left) where
               rw y (refl, record { there = (omega (arith, length-set w (slot left) 33), getD-set-same w (slot left) 33 0 (omega arith)); within = tt; short = omega arith }, rw l at s);
         }
 
-    pub fork-stop : getD img at 0 ≡ 9 → (need ≡ 0 → ⊥) → First img w w at n left part need (Stop 14 at)
+    pub fork-stop : getD img at 0 ≡ 9 → (need ≡ 0 → ⊥) → First img w w at n left part need next (Refused 14 at)
     unfolding after1
     fork-stop e z =
         record {
           kept = kept-refl w (slot left) (slot left + 256);
           says = λ v x G pl t I s.
               let W = read-whole left v n img at x (G .next) (G .reads) in
-              by-fork (λ x. placeOf x ≡ at → StepOut w left n (after1 x t need) (Stop 14 at)) x (W .is .coded ∙ e) (λ p a y. rw (ne-eqb need 0 z, y)) (W .is .place);
+              by-fork (λ x. placeOf x ≡ at → Out w left n next (after1 x t need) (Refused 14 at)) x (W .is .coded ∙ e) (λ p a y. rw (ne-eqb need 0 z, y)) (W .is .place);
         }
 
-    pub fork-first : getD img at 0 ≡ 9 → need ≡ 0 → First img w (set w (slot left) 32) at n left part need (Go 0)
+    pub fork-first : getD img at 0 ≡ 9 → need ≡ 0 → First img w (set w (slot left) 32) at n left part need next (Typed next 0)
     unfolding after1 tySize
     fork-first e z =
         let F = facts in
@@ -189,7 +189,7 @@ module _ {img w : List ℕ} {at n left : ℕ} (O : Some1 img w at n left) where
           kept = kept-wider (kept-set w (slot left) 32) (slot left) (slot left + 256) (omega arith) (omega arith);
           says = λ v x G pl t I s.
               let W = read-whole left v n img at x (G .next) (G .reads) in
-              by-fork (λ x. StepOut (set w (slot left) 32) left n (after1 x t need) (Go 0)) x (W .is .coded ∙ e)
+              by-fork (λ x. Out (set w (slot left) 32) left n next (after1 x t need) (Typed next 0)) x (W .is .coded ∙ e)
               (λ p a. rw (eq-eqb need 0 z)
               (refl, record { there = (omega (arith, length-set w (slot left) 32), getD-set-same w (slot left) 32 0 (omega arith)); within = tt; short = omega arith }, pow-pos n));
         }

@@ -21,11 +21,11 @@ use Rattle.judging.proofs.shift.Lowering.{lower-size, low-mentions, low
 use Rattle.reading.specs.Placed.{Exp, placeOf}
 use Rattle.reading.specs.Walk.{locks1}
 use Rattle.reading.proofs.first.Laws.{lock-room}
-use Rattle.judging.specs.declared.work.Step.the-variants.{Go, Stop}
+use Rattle.judging.specs.declared.work.Answer.the-variants.{Typed, Refused}
 use Rattle.judging.proofs.SetBits.{odd-has, even-has}
 use Rattle.judging.specs.Phases.{after1}
 use Rattle.judging.specs.Work.{slot, InSlot}
-use Rattle.judging.specs.Contract.{StepOut, Given, First, Some1}
+use Rattle.judging.specs.Contract.{Out, Given, First, Some1}
 use Rattle.judging.proofs.Cases.{by-newLock}
 use Rattle.judging.proofs.Node.{read-whole}
 use Rattle.judging.proofs.first.Kept.{facts, coded}
@@ -83,39 +83,39 @@ module _ {img w : List ℕ} {at n left : ℕ} (O : Some1 img w at n left) where
     place-is : (v : ℕ) (x : Exp) → Given img w at v n left x → placeOf x ≡ at
     place-is v x G = read-whole left v n img at x (G .next) (G .reads) .is .place
 
-    pub lock-15 : {part need : ℕ} → r ≡ Mentions → First img w w₂ at n left part need (Stop 15 at)
+    pub lock-15 : {part need next : ℕ} → r ≡ Mentions → First img w w₂ at n left part need next (Refused 15 at)
     unfolding after1
-    lock-15 {part} {need} f =
+    lock-15 {part} {need} {next} f =
         record {
           kept = kept-both;
           says = λ v x G pl t I s.
               let D = low-at t I (few-locks e) in
               let y : mentions t ≡ true = low-mentions (slot left + tySize t) (mentions t) (sym f ∙ D .answer) in
-              by-newLock (λ x. placeOf x ≡ at → StepOut w₂ left n (after1 x t need) (Stop 15 at)) x (coded O v x G ∙ e) (λ p a q. rw (y, q)) (place-is v x G);
+              by-newLock (λ x. placeOf x ≡ at → Out w₂ left n next (after1 x t need) (Refused 15 at)) x (coded O v x G ∙ e) (λ p a q. rw (y, q)) (place-is v x G);
         }
 
     module _ {p : ℕ} (f : r ≡ Next p) where
       free : (t : Ty) → InSlot w (left - 1) (n + locks1 (getD img at 0)) t → mentions t ≡ false
       free t I = low-next (slot left + tySize t) p (mentions t) (sym f ∙ low-at t I (few-locks e) .answer) .0
 
-      pub lock-16 : {part need : ℕ} → (need % 2 ≡ 0 → ⊥) → First img w w₂ at n left part need (Stop 16 at)
+      pub lock-16 : {part need next : ℕ} → (need % 2 ≡ 0 → ⊥) → First img w w₂ at n left part need next (Refused 16 at)
       unfolding after1
-      lock-16 {part} {need} z =
+      lock-16 {part} {need} {next} z =
           record {
             kept = kept-both;
             says = λ v x G pl t I s.
-                by-newLock (λ x. placeOf x ≡ at → StepOut w₂ left n (after1 x t need) (Stop 16 at)) x (coded O v x G ∙ e) (λ p a q. rw (free t I, odd-has need z, q)) (place-is v x G);
+                by-newLock (λ x. placeOf x ≡ at → Out w₂ left n next (after1 x t need) (Refused 16 at)) x (coded O v x G ∙ e) (λ p a q. rw (free t I, odd-has need z, q)) (place-is v x G);
           }
 
-      pub lock-first : {part need : ℕ} → need % 2 ≡ 0 → First img w w₂ at n left part need (Go (need / 2))
+      pub lock-first : {part need next : ℕ} → need % 2 ≡ 0 → First img w w₂ at n left part need next (Typed next (need / 2))
       unfolding after1 locks1 lowered
-      lock-first {part} {need} z =
+      lock-first {part} {need} {next} z =
           record {
             kept = kept-both;
             says = λ v x G pl t I s.
                 let D = low-at t I (few-locks e) in
                 let m : need < 2 ^ (n + 1) = rw e at s in
-                by-newLock (λ x. StepOut w₂ left n (after1 x t need) (Go (need / 2))) x (coded O v x G ∙ e)
+                by-newLock (λ x. Out w₂ left n next (after1 x t need) (Typed next (need / 2))) x (coded O v x G ∙ e)
                 (λ p a. rw (free t I, even-has need z)
                 (refl, record { there = D .holds (free t I); within = lower-within n t (lock-given w₁ e c t I .1) (free t I); short = rw (lower-size t) (I .short) }, half-small n need m));
           }

@@ -16,11 +16,11 @@ use Rattle.judging.specs.Shift.{Within}
 use Rattle.reading.specs.Placed.{Exp, placeOf}
 use Rattle.reading.specs.Walk.{locks1}
 use Rattle.judging.specs.Rules.{Judged, typed, refused, asRef}
-use Rattle.judging.specs.declared.work.Step.the-variants.{Go, Stop}
+use Rattle.judging.specs.declared.work.Answer.the-variants.{Typed, Refused}
 use Rattle.judging.proofs.Gone.{gone, two-needs, just-small}
 use Rattle.judging.specs.Phases.{partsOf, after1}
 use Rattle.judging.specs.Work.{slot, InSlot}
-use Rattle.judging.specs.Contract.{StepOut, Given, First, Some1, place1}
+use Rattle.judging.specs.Contract.{Out, Given, First, Some1, place1}
 use Rattle.judging.proofs.Cases.{codeNum, by-read}
 use Rattle.judging.proofs.Node.{read-whole}
 
@@ -59,18 +59,18 @@ module _ {img w : List ℕ} {at n left : ℕ} (O : Some1 img w at n left) (e : g
   coded : (v : ℕ) (x : Exp) → Given img w at v n left x → codeNum x ≡ 7
   coded v x G = read-whole left v n img at x (G .next) (G .reads) .is .coded ∙ e
 
-  module _ {part need : ℕ} where
-    pub read-stop : (getD w (slot (left - 1)) 0 ≡ 35 → ⊥) → First img w w at n left part need (Stop 11 part)
+  module _ {part need next : ℕ} where
+    pub read-stop : (getD w (slot (left - 1)) 0 ≡ 35 → ⊥) → First img w w at n left part need next (Refused 11 part)
     unfolding after1
     read-stop z =
         record {
           kept = kept-refl w (slot left) (slot left + 256);
           says = λ v x G pl t I s.
-              by-read (λ x. place1 (partsOf x) ≡ part → StepOut w left n (after1 x t need) (Stop 11 part)) x (coded v x G)
+              by-read (λ x. place1 (partsOf x) ≡ part → Out w left n next (after1 x t need) (Refused 11 part)) x (coded v x G)
               (λ p a pl. rw (not-ref w (slot (left - 1)) t (placeOf a) (λ k c. typed c (union need (single k))) (I .there) z, pl)) pl;
         }
 
-    pub read-go : (w′ : List ℕ) → getD w (slot (left - 1)) 0 ≡ 35 → Moved w w′ (slot (left - 1) + 2) (slot left) → First img w w′ at n left part need (Go (bitOr need (single (getD w (slot (left - 1) + 1) 0))))
+    pub read-go : (w′ : List ℕ) → getD w (slot (left - 1)) 0 ≡ 35 → Moved w w′ (slot (left - 1) + 2) (slot left) → First img w w′ at n left part need next (Typed next (bitOr need (single (getD w (slot (left - 1) + 1) 0))))
     unfolding after1 asRef tySize
     read-go w′ z c =
         let F = facts1 in
@@ -79,9 +79,9 @@ module _ {img w : List ℕ} {at n left : ℕ} (O : Some1 img w at n left) (e : g
           says = λ v x G pl t I₀ s₀.
               let I = flat t I₀ in
               let s : need < 2 ^ n = subst (λ (k : ℕ). need < 2 ^ k) (locks1-7 (getD img at 0) n e) s₀ in
-              by-ref (λ t. Within n t → tySize t ≤ 256 → StepOut w′ left n (after1 x t need) (Go (bitOr need (single (getD w (slot (left - 1) + 1) 0))))) w (slot (left - 1)) t (I .there) z
+              by-ref (λ t. Within n t → tySize t ≤ 256 → Out w′ left n next (after1 x t need) (Typed next (bitOr need (single (getD w (slot (left - 1) + 1) 0))))) w (slot (left - 1)) t (I .there) z
               (λ k t hk ht wt st.
-              by-read (λ x. StepOut w′ left n (after1 x (ref k t) need) (Go (bitOr need (single (getD w (slot (left - 1) + 1) 0))))) x (coded v x G)
+              by-read (λ x. Out w′ left n next (after1 x (ref k t) need) (Typed next (bitOr need (single (getD w (slot (left - 1) + 1) 0))))) x (coded v x G)
               (λ p a. rw (hk .1)
               (let jk = just-small n k (wt .0) in gone n (bitOr need (single k)) (union need (single k)) (InSlot w′ left n t) (two-needs n need (single k) (G .few) s jk) (or-lt n need (single k) s jk) (record { there = c .holds t ht; within = wt .1; short = omega arith }))))
               (I .within) (I .short);

@@ -20,11 +20,11 @@ use Rattle.types.specs.declared.subtype.Cmp.the-variants.{Next, Differ}
 use Rattle.types.proofs.subtype.Says.{says, cmp-next, cmp-differ, sub-is}
 use Rattle.reading.specs.Placed.{Exp, placeOf}
 use Rattle.judging.specs.Rules.{typed, asFun}
-use Rattle.judging.specs.declared.work.Step.the-variants.{Go, Stop}
+use Rattle.judging.specs.declared.work.Answer.the-variants.{Typed, Refused}
 use Rattle.judging.proofs.Gone.{gone, three-needs}
 use Rattle.judging.specs.Phases.{partsOf, after1, after2}
 use Rattle.judging.specs.Work.{slot, InSlot}
-use Rattle.judging.specs.Contract.{StepOut, Second, Some2, place2, Kept1}
+use Rattle.judging.specs.Contract.{Out, Second, Some2, place2, Kept1}
 use Rattle.judging.proofs.Cases.{codeNum, by-app}
 use Rattle.judging.proofs.second.Plain.{facts, coded}
 
@@ -64,31 +64,31 @@ module _ {img w : List ℕ} {at n left : ℕ} (O : Some2 img w at n left) where
     result-movable p d = by-slot (λ k. Movable w (p + 4) (slot left)) (O .3) mine (O .4)
         (λ a s y ha hs hy wy z sm. let F = facts O in let q : p ≡ slot left + 1 + tySize a = d a ha in (y, rw q hy, omega arith, omega arith, inl (omega arith)))
 
-    module _ {part m need : ℕ} {r : Cmp} (D : Related w (slot (left - 1)) w (slot left + 1) below r) where
-      pub app-stop : r ≡ Differ → Second img w w at n left part m need (Stop 12 part)
+    module _ {part m need next : ℕ} {r : Cmp} (D : Related w (slot (left - 1)) w (slot left + 1) below r) where
+      pub app-stop : r ≡ Differ → Second img w w at n left part m need next (Refused 12 part)
       unfolding after2 asFun
       app-stop f =
           record {
             kept = kept-refl w (slot left) (slot left + 256);
             says = λ v x G pl k K I sm u J su.
-                by-slot (λ k. StepOut w left n (after2 x k m u need) (Stop 12 part)) k (kept-fun x k m (coded O v x G ∙ e) K) I (λ a s y ha hs hy wy z sy.
+                by-slot (λ k. Out w left n next (after2 x k m u need) (Refused 12 part)) k (kept-fun x k m (coded O v x G ∙ e) K) I (λ a s y ha hs hy wy z sy.
                 let q : subtype u a ≡ false = sym (sub-is u a) ∙ cmp-differ (slot (left - 1) + tySize u) (related below u a) (sym f ∙ says D u a (J .there) ha) in
-                by-app (λ x. place2 (partsOf x) ≡ part → StepOut w left n (after2 x (fun a s y) m u need) (Stop 12 part)) x (coded O v x G ∙ e) (λ p₀ a₀ b₀ pl. rw (q, pl)) pl);
+                by-app (λ x. place2 (partsOf x) ≡ part → Out w left n next (after2 x (fun a s y) m u need) (Refused 12 part)) x (coded O v x G ∙ e) (λ p₀ a₀ b₀ pl. rw (q, pl)) pl);
           }
 
-      pub app-go : (q₀ p : ℕ) (w′ : List ℕ) → r ≡ Next q₀ → Ends w (slot left + 1) p → Moved w w′ (p + 4) (slot left) → Second img w w′ at n left part m need (Go (bitOr (bitOr m need) (word32 w p)))
+      pub app-go : (q₀ p : ℕ) (w′ : List ℕ) → r ≡ Next q₀ → Ends w (slot left + 1) p → Moved w w′ (p + 4) (slot left) → Second img w w′ at n left part m need next (Typed next (bitOr (bitOr m need) (word32 w p)))
       unfolding after2 asFun tySize
       app-go q₀ p w′ f d c =
           let F = facts O in
           record {
             kept = c .kept;
             says = λ v x G pl k K I sm u J su.
-                by-slot (λ k. StepOut w′ left n (after2 x k m u need) (Go (bitOr (bitOr m need) (word32 w p)))) k (kept-fun x k m (coded O v x G ∙ e) K) I (λ a s y ha hs hy wy z sy.
+                by-slot (λ k. Out w′ left n next (after2 x k m u need) (Typed next (bitOr (bitOr m need) (word32 w p)))) k (kept-fun x k m (coded O v x G ∙ e) K) I (λ a s y ha hs hy wy z sy.
                 let q : subtype u a ≡ true = sym (sub-is u a) ∙ cmp-next (slot (left - 1) + tySize u) q₀ (related below u a) (sym f ∙ says D u a (J .there) ha) .0 in
                 let pz : p ≡ slot left + 1 + tySize a = d a ha in
                 let sz : word32 w p ≡ s = ap (word32 w) pz ∙ hs .1 in
                 let hy₁ : Holds w (p + 4) y = rw pz hy in
-                by-app (λ x. StepOut w′ left n (after2 x (fun a s y) m u need) (Go (bitOr (bitOr m need) (word32 w p)))) x (coded O v x G ∙ e) (λ p₀ a₀ b₀. rw (q, sz)
+                by-app (λ x. Out w′ left n next (after2 x (fun a s y) m u need) (Typed next (bitOr (bitOr m need) (word32 w p)))) x (coded O v x G ∙ e) (λ p₀ a₀ b₀. rw (q, sz)
                 (gone n (bitOr (bitOr m need) s) (union (union m need) s) (InSlot w′ left n y) (three-needs n m need (G .few) sm su s sy) (or-lt n (bitOr m need) s (or-lt n m need sm su) sy)
                 (record { there = c .holds y hy₁; within = wy; short = omega arith }))));
           }

@@ -13,11 +13,11 @@ use Rattle.judging.proofs.Held.{kept-refl, kept-wider, kept-set}
 use Rattle.judging.specs.Copies.{Movable, Moved}
 use Rattle.reading.specs.Placed.{Exp, placeOf}
 use Rattle.judging.specs.Rules.{Judged, typed, refused, asLock, asInt}
-use Rattle.judging.specs.declared.work.Step.the-variants.{Go, Stop}
+use Rattle.judging.specs.declared.work.Answer.the-variants.{Typed, Refused}
 use Rattle.judging.proofs.Gone.{gone, two-needs, less-small}
 use Rattle.judging.specs.Phases.{partsOf, after1, after2}
 use Rattle.judging.specs.Work.{slot, InSlot}
-use Rattle.judging.specs.Contract.{StepOut, Given, Second, Some2, place2, Kept1}
+use Rattle.judging.specs.Contract.{Out, Given, Second, Some2, place2, Kept1}
 use Rattle.judging.proofs.Buffer.{slot-moved, slot-movable}
 use Rattle.judging.proofs.Cases.{codeNum, by-sync, by-add}
 use Rattle.judging.proofs.Node.{read-whole}
@@ -71,8 +71,8 @@ module _ {img w : List ℕ} {at n left : ℕ} (O : Some2 img w at n left) where
       go : (k : Ty) → IsLock k → InSlot w left n k → getD w (slot left + 1) 0 < 32
       go k (is-lock a) I = omega (arith, I .there .1 .1, I .within, O .2 .few)
 
-  module _ {part m need : ℕ} where
-    pub sync-second : (w′ : List ℕ) → getD img at 0 ≡ 11 → Moved w w′ (slot (left - 1)) (slot left) → Second img w w′ at n left part m need (Go (bitOr m (less need (single (getD w (slot left + 1) 0)))))
+  module _ {part m need next : ℕ} where
+    pub sync-second : (w′ : List ℕ) → getD img at 0 ≡ 11 → Moved w w′ (slot (left - 1)) (slot left) → Second img w w′ at n left part m need next (Typed next (bitOr m (less need (single (getD w (slot left + 1) 0)))))
     unfolding after2 asLock
     sync-second w′ e c =
         let F = facts in
@@ -81,31 +81,31 @@ module _ {img w : List ℕ} {at n left : ℕ} (O : Some2 img w at n left) where
           says = λ v x G pl k K I sm u J su. go v x G k (kept-lock x k m (coded v x G ∙ e) K) I sm u J su;
         }
       where
-        go : (v : ℕ) (x : Exp) → Given img w at v n left x → (k : Ty) → IsLock k → InSlot w left n k → m < 2 ^ n → (u : Ty) → InSlot w (left - 1) n u → need < 2 ^ n → StepOut w′ left n (after2 x k m u need) (Go (bitOr m (less need (single (getD w (slot left + 1) 0)))))
+        go : (v : ℕ) (x : Exp) → Given img w at v n left x → (k : Ty) → IsLock k → InSlot w left n k → m < 2 ^ n → (u : Ty) → InSlot w (left - 1) n u → need < 2 ^ n → Out w′ left n next (after2 x k m u need) (Typed next (bitOr m (less need (single (getD w (slot left + 1) 0)))))
         go v x G k (is-lock a) I sm u J su =
             let F = facts in
             let z : getD w (slot left + 1) 0 ≡ a = I .there .1 .1 in
-            by-sync (λ x. StepOut w′ left n (after2 x (lock a) m u need) (Go (bitOr m (less need (single (getD w (slot left + 1) 0)))))) x (coded v x G ∙ e)
+            by-sync (λ x. Out w′ left n next (after2 x (lock a) m u need) (Typed next (bitOr m (less need (single (getD w (slot left + 1) 0)))))) x (coded v x G ∙ e)
             (λ p₀ a₀ c₀. let sl = less-small n need (single a) (G .few) su in rw z (gone n (bitOr m (less need (single a))) (union m (less need (single a))) (InSlot w′ left n u) (two-needs n m (less need (single a)) (G .few) sm sl) (or-lt n m (less need (single a)) sm sl) (slot-moved w w′ left n u c J)))
 
-    pub add-stop : getD img at 0 ≡ 14 → (getD w (slot (left - 1)) 0 ≡ 33 → ⊥) → Second img w w at n left part m need (Stop 11 part)
+    pub add-stop : getD img at 0 ≡ 14 → (getD w (slot (left - 1)) 0 ≡ 33 → ⊥) → Second img w w at n left part m need next (Refused 11 part)
     unfolding after2
     add-stop e z =
         record {
           kept = kept-refl w (slot left) (slot left + 256);
           says = λ v x G pl k K I sm u J su.
-              by-add (λ x. place2 (partsOf x) ≡ part → StepOut w left n (after2 x k m u need) (Stop 11 part)) x (coded v x G ∙ e)
+              by-add (λ x. place2 (partsOf x) ≡ part → Out w left n next (after2 x k m u need) (Refused 11 part)) x (coded v x G ∙ e)
               (λ p₀ a₀ c₀ pl. rw (not-33 w (slot (left - 1)) u (placeOf c₀) (λ _. typed int (union m need)) (J .there) z, pl)) pl;
         }
 
-    pub add-go : getD img at 0 ≡ 14 → getD w (slot (left - 1)) 0 ≡ 33 → Second img w (set w (slot left) 33) at n left part m need (Go (bitOr m need))
+    pub add-go : getD img at 0 ≡ 14 → getD w (slot (left - 1)) 0 ≡ 33 → Second img w (set w (slot left) 33) at n left part m need next (Typed next (bitOr m need))
     unfolding after2 asInt tySize
     add-go e z =
         let F = facts in
         record {
           kept = kept-wider (kept-set w (slot left) 33) (slot left) (slot left + 256) (omega arith) (omega arith);
           says = λ v x G pl k K I sm u J su.
-              tcode-33 w (slot (left - 1)) u (J .there) z (λ u. StepOut (set w (slot left) 33) left n (after2 x k m u need) (Go (bitOr m need)))
-              (by-add (λ x. StepOut (set w (slot left) 33) left n (after2 x k m int need) (Go (bitOr m need))) x (coded v x G ∙ e)
+              tcode-33 w (slot (left - 1)) u (J .there) z (λ u. Out (set w (slot left) 33) left n next (after2 x k m u need) (Typed next (bitOr m need)))
+              (by-add (λ x. Out (set w (slot left) 33) left n next (after2 x k m int need) (Typed next (bitOr m need))) x (coded v x G ∙ e)
               (λ p₀ a₀ c₀. gone n (bitOr m need) (union m need) (InSlot (set w (slot left) 33) left n int) (two-needs n m need (G .few) sm su) (or-lt n m need sm su) (record { there = (omega (arith, length-set w (slot left) 33), getD-set-same w (slot left) 33 0 (omega arith)); within = tt; short = omega arith })));
         }

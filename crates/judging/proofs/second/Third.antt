@@ -19,11 +19,11 @@ use Rattle.types.specs.declared.subtype.Cmp.the-variants.{Next, Differ}
 use Rattle.types.proofs.subtype.Says.{says, cmp-next, cmp-differ, sub-is}
 use Rattle.reading.specs.Placed as e
 use Rattle.reading.specs.Placed.{Exp, placeOf}
-use Rattle.judging.specs.declared.work.Step.the-variants.{Go, Stop}
+use Rattle.judging.specs.declared.work.Answer.the-variants.{Typed, Refused}
 use Rattle.judging.proofs.Gone.{gone, two-needs}
 use Rattle.judging.specs.Phases.{partsOf, after3}
 use Rattle.judging.specs.Work.{slot, InSlot}
-use Rattle.judging.specs.Contract.{StepOut, Given, Third, Some3, place3}
+use Rattle.judging.specs.Contract.{Out, Given, Third, Some3, place3}
 use Rattle.judging.proofs.Cases.{by-ifNot0}
 use Rattle.judging.proofs.Node.{Facts, read-whole}
 
@@ -47,18 +47,18 @@ module _ {img w : List ℕ} {at n left : ℕ} (O : Some3 img w at n left) where
   pub stated-room : (p : ℕ) → Ends img (at + 1) p → (at + 1 ≤ p) × (p - (at + 1) ≤ 256) × (p ≤ length img)
   stated-room p d = by-cond (O .0) (O .1) (λ x. (at + 1 ≤ p) × (p - (at + 1) ≤ 256) × (p ≤ length img)) (O .2) (λ t a c₀ d₀ p₀ h w s. let z = d t h in (omega arith, omega arith, omega (arith, holds-end img (at + 1) t h)))
 
-  module _ {part m need : ℕ} {r : Cmp} (D : Related w (slot (left - 1)) img (at + 1) below r) where
-    pub third-stop : r ≡ Differ → Third img w w at n left part m need (Stop 12 part)
+  module _ {part m need next : ℕ} {r : Cmp} (D : Related w (slot (left - 1)) img (at + 1) below r) where
+    pub third-stop : r ≡ Differ → Third img w w at n left part m need next (Refused 12 part)
     unfolding after3
     third-stop f =
         record {
           kept = kept-refl w (slot left) (slot left + 256);
           says = λ v x G pl sm u J su.
-              by-cond v x (λ x. place3 (partsOf x) ≡ part → StepOut w left n (after3 x m u need) (Stop 12 part)) G
+              by-cond v x (λ x. place3 (partsOf x) ≡ part → Out w left n next (after3 x m u need) (Refused 12 part)) G
               (λ t a c d p h wt s pl. let q : subtype u t ≡ false = sym (sub-is u t) ∙ cmp-differ (slot (left - 1) + tySize u) (related below u t) (sym f ∙ says D u t (J .there) h) in rw (q, pl)) pl;
         }
 
-    pub third-go : (q₀ p : ℕ) (w′ : List ℕ) → r ≡ Next q₀ → Ends img (at + 1) p → Copied img (at + 1) (p - (at + 1)) w w′ (slot left) → Third img w w′ at n left part m need (Go (bitOr m need))
+    pub third-go : (q₀ p : ℕ) (w′ : List ℕ) → r ≡ Next q₀ → Ends img (at + 1) p → Copied img (at + 1) (p - (at + 1)) w w′ (slot left) → Third img w w′ at n left part m need next (Typed next (bitOr m need))
     unfolding after3
     third-go q₀ p w′ f d c =
         let F = facts in
@@ -66,7 +66,7 @@ module _ {img w : List ℕ} {at n left : ℕ} (O : Some3 img w at n left) where
         record {
           kept = kept-wider (c .kept) (slot left) (slot left + 256) (omega arith) (omega (arith, S .1));
           says = λ v x G pl sm u J su.
-              by-cond v x (λ x. StepOut w′ left n (after3 x m u need) (Go (bitOr m need))) G
+              by-cond v x (λ x. Out w′ left n next (after3 x m u need) (Typed next (bitOr m need))) G
               (λ t a c₀ d₀ p₀ h wt s.
               let q : subtype u t ≡ true = sym (sub-is u t) ∙ cmp-next (slot (left - 1) + tySize u) q₀ (related below u t) (sym f ∙ says D u t (J .there) h) .0 in
               let z = d t h in

@@ -1,6 +1,7 @@
 -- The walk over an expression's first part: what the calls may ask, and what each way out answers. Each law is for any reading of the
 -- expression and any types of its variables that there may be: `Ready` is such a reading.
-use mathlib.Core.Path.{_≡_, refl, ap, sym, _∙_, subst}
+use mathlib.Core.Path.{_≡_, refl, sym, _∙_, subst}
+use mathlib.Core.Bool.{Bool, true, false}
 use mathlib.Core.List.{List}
 use Prim.Native.Nat.{ℕ, _+_, _-_, _*_, _^_, _<_}
 use native.Mathlib.Omega.{arith}
@@ -12,16 +13,14 @@ use Rattle.reading.specs.Walk.{parts, binds1, locks1}
 use Rattle.reading.proofs.first.Laws.{lock-room}
 use Rattle.judging.specs.declared.work.Answer.{Answer}
 use Rattle.judging.specs.declared.work.Answer.the-variants.{Typed, Refused}
-use Rattle.judging.specs.declared.work.Step.{Step}
-use Rattle.judging.specs.declared.work.Step.the-variants.{Go, Stop}
 use Rattle.judging.specs.Rules.{typed, refused, _next_, judge}
 use Rattle.judging.specs.Phases.{partsOf, env1, after1}
 use Rattle.judging.specs.Work.{Env, Frame, InSlot}
-use Rattle.judging.specs.Contract.{Out, StepOut, Ready, Finds, Entered, Given, First, Kept1, Some1, Starts}
-use Rattle.judging.proofs.Walked.{walked}
+use Rattle.judging.specs.Contract.{Out, Ready, Finds, Entered, Given, First, Kept1, Some1, AnswersIn1, Tests1, Starts, Due}
+use Rattle.judging.proofs.Walked.{walked, next-same}
 use Rattle.judging.proofs.Node.{count, read-whole}
-use Rattle.judging.proofs.Buffer.{frame-then, frame-part, frame-env, frame-slot, out-refused, Gave, out-typed, step-stop, Went, step-go}
-use Rattle.judging.proofs.typing.Parts.{parts-some, binds1-le, head, rest1, walk-1, refused-next, typed-then, Then1, part-1, place-of, place1-head, one-more, one-rest}
+use Rattle.judging.proofs.Buffer.{frame-then, frame-part, frame-env, frame-slot, out-refused, Gave, out-typed}
+use Rattle.judging.proofs.typing.Parts.{parts-some, binds1-le, head, rest1, walk-1, next-typed, refused-next, typed-then, Then1, part-1, place-of, place1-head, one-more, one-rest}
 
 pub less-left : (left t : ℕ) → 2 * left ≡ t → (left ≡ 0 → ⊥) → 2 * (left - 1) + 1 < t
 less-left left t e z = omega arith
@@ -55,7 +54,7 @@ pub record Started (img w w1 : List ℕ) (at v n left p1 v1 n1 : ℕ) : Type 0 w
   pub vars : v + binds1 (getD img at 0) ≡ v1
   pub locks : n + locks1 (getD img at 0) ≡ n1
 
--- what the step after the first part leaves: a type in the slot, the need so far, and what the rules' judge still does
+-- what is left after the first part, where there is a second: a type in the slot, the need so far, and what the rules' judge still does
 pub record Goes1 (img w w3 : List ℕ) (at v n left p2 l1 : ℕ) (R : Ready img w at v n left) : Type 0 where
   pub type : Ty
   pub was : Kept1 (R .x) type l1
@@ -148,13 +147,13 @@ module _ {img w w1 : List ℕ} {at v n left p1 v1 n1 : ℕ} (S : Started img w w
       pub some-1 : Some1 img w2 at n left
       some-1 = let R = S .ready in let g = gave-1 R in (v, R .x, given R w2 (frame-2 .long), g .type, g .slotted)
 
-      -- after the step
-      module _ {s1 : Step} {w3 : List ℕ} (A1 : First img w2 w3 at n left p1 m1 s1) where
+      -- after what is done then
+      module _ {s1 : Answer} {w3 : List ℕ} (A1 : First img w2 w3 at n left p1 m1 p2 s1) where
         frame-3 : Frame w w3 v left
         frame-3 = frame-then v left frame-2 (frame-slot v left (A1 .kept) (S .ready .deep))
 
-        step-1 : (R : Ready img w at v n left) → StepOut w3 left n (after1 (R .x) (gave-1 R .type) m1) s1
-        step-1 R =
+        out-3 : (R : Ready img w at v n left) → Out w3 left n p2 (after1 (R .x) (gave-1 R .type) m1) s1
+        out-3 R =
             A1 .says v (R .x) (given R w2 (frame-2 .long))
             (place1-head (partsOf (R .x)) (read-1 R .not0) ∙ place-of (left - 1) (v + binds1 (getD img at 0)) (n + locks1 (getD img at 0)) img p1 (head (partsOf (R .x))) (read-1 R .q) (read-1 R .first))
             (gave-1 R .type) (gave-1 R .slotted) (gave-1 R .small)
@@ -162,19 +161,33 @@ module _ {img w w1 : List ℕ} {at v n left p1 v1 n1 : ℕ} (S : Started img w w
         from-1 : (R : Ready img w at v n left) → judge (R .env) (R .x) ≡ (after1 (R .x) (gave-1 R .type) m1 next λ k l. rest1 (R .env) (R .x) (partsOf (R .x)) k l)
         from-1 R = sym (whole-1 R) ∙ typed-then _ (gave-1 R .is)
 
-        pub stop-1 : {k p : ℕ} → s1 ≡ Stop k p → Finds img w w3 at v n left (Refused k p)
+        more-1 : (R : Ready img w at v n left) → Then1 (left - 1) v n img (getD img at 0) p2 (R .next) (partsOf (R .x))
+        more-1 R = subst (λ (q : ℕ). Then1 (left - 1) v n img (getD img at 0) q (R .next) (partsOf (R .x))) (gave-1 R .next-is) (read-1 R .more)
+
+        -- there is no second part
+        last-1 : parts (getD img at 0) ≡ 1 → Finds img w w3 at v n left s1
+        last-1 f =
+            finds (S .ready) frame-3 λ R.
+            let z : count (partsOf (R .x)) ≡ 1 = sym (read-1 R .many) ∙ f in
+            let y : judge (R .env) (R .x) ≡ after1 (R .x) (gave-1 R .type) m1 =
+            from-1 R ∙ next-same _ _ _ (λ k l. one-rest (R .env) (R .x) (partsOf (R .x)) k l z) ∙ next-typed _ in
+            let q : p2 ≡ R .next = one-more (left - 1) v n img (getD img at 0) p2 (R .next) (partsOf (R .x)) z (more-1 R) in
+            subst (λ (p : ℕ). Out w3 left n p (judge (R .env) (R .x)) s1) q (rw y (out-3 R))
+
+        -- there is one
+        stop-1 : {k p : ℕ} → s1 ≡ Refused k p → Finds img w w3 at v n left (Refused k p)
         stop-1 {k} {p} f =
             finds (S .ready) frame-3 λ R.
-            let z = step-stop w3 left n _ (step-1 R) f in
+            let z = out-refused w3 left n p2 _ (out-3 R) f in
             let y : judge (R .env) (R .x) ≡ refused k p = from-1 R ∙ refused-next _ z in
             rw y
 
-        pub after-1 : {l1 : ℕ} → s1 ≡ Go l1 → After1 img w w3 at v n left p2 l1
+        after-1 : {l1 : ℕ} → s1 ≡ Typed p2 l1 → After1 img w w3 at v n left p2 l1
         after-1 {l1} f = record { ready = S .ready; frame = frame-3; each = goes }
           where
             goes : (R : Ready img w at v n left) → Goes1 img w w3 at v n left p2 l1 R
             goes R =
-                let W : Went w3 left n (after1 (R .x) (gave-1 R .type) m1) l1 = step-go w3 left n _ (step-1 R) f in
+                let W : Gave w3 left n p2 (after1 (R .x) (gave-1 R .type) m1) p2 l1 = out-typed w3 left n p2 _ (out-3 R) f in
                 record {
                   type = W .type;
                   was = (gave-1 R .type, m1, W .is);
@@ -183,18 +196,16 @@ module _ {img w w1 : List ℕ} {at v n left p1 v1 n1 : ℕ} (S : Started img w w
                   on = from-1 R ∙ typed-then _ (W .is);
                   not0 = read-1 R .not0;
                   many = read-1 R .many;
-                  more = subst (λ (q : ℕ). Then1 (left - 1) v n img (getD img at 0) q (R .next) (partsOf (R .x))) (gave-1 R .next-is) (read-1 R .more);
+                  more = more-1 R;
                 }
 
--- ---- the step after the first part went on
+      -- as the functions answer
+      pub ends-1 : {b : ℕ} {s1 : Answer} {w3 : List ℕ} → AnswersIn1 (λ k. k ≡ b) img at p1 w2 w3 left m1 p2 s1 → getD img at 0 ≡ b → parts (getD img at 0) ≡ 1 → Finds img w w3 at v n left s1
+      ends-1 A e = last-1 (A n some-1 e)
 
-module _ {img w w3 : List ℕ} {at v n left p2 l1 : ℕ} (A : After1 img w w3 at v n left p2 l1) where
-  -- there is no second part
-  pub done-1 : parts (getD img at 0) ≡ 1 → Finds img w w3 at v n left (Typed p2 l1)
-  done-1 f =
-      finds (A .ready) (A .frame) λ R.
-      let G = A .each R in
-      let z : count (partsOf (R .x)) ≡ 1 = sym (G .many) ∙ f in
-      let y : judge (R .env) (R .x) ≡ typed (G .type) l1 = G .on ∙ one-rest (R .env) (R .x) (partsOf (R .x)) _ l1 z in
-      let q : p2 ≡ R .next = one-more (left - 1) v n img (getD img at 0) p2 (R .next) (partsOf (R .x)) z (G .more) in
-      rw y (ap (λ (p : ℕ). Typed p l1) q, G .slotted, G .small)
+      module _ {kind : ℕ} {ok : Bool} {w3 : List ℕ} (A : Tests1 (λ k. Due k kind) w2 w3 left ok) (d : Due (getD img at 0) kind) where
+        pub other-1 : ok ≡ false → Finds img w w3 at v n left (Refused 11 p1)
+        other-1 f = stop-1 (A p1 m1 p2 img at n some-1 d) (rw f)
+
+        pub due-1 : ok ≡ true → After1 img w w3 at v n left p2 m1
+        due-1 f = after-1 (A p1 m1 p2 img at n some-1 d) (rw f)

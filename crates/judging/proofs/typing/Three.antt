@@ -1,5 +1,5 @@
 -- The walk over an expression's third part: what the calls may ask, and what each way out answers.
-use mathlib.Core.Path.{_≡_, ap, sym, _∙_}
+use mathlib.Core.Path.{_≡_, sym, _∙_, subst}
 use mathlib.Core.List.{List}
 use Prim.Native.Nat.{ℕ, _-_}
 use native.Mathlib.Omega.{arith}
@@ -10,14 +10,12 @@ use Rattle.reading.specs.First.{expAt}
 use Rattle.reading.specs.Walk.{parts}
 use Rattle.judging.specs.declared.work.Answer.{Answer}
 use Rattle.judging.specs.declared.work.Answer.the-variants.{Typed, Refused}
-use Rattle.judging.specs.declared.work.Step.{Step}
-use Rattle.judging.specs.declared.work.Step.the-variants.{Go, Stop}
 use Rattle.judging.specs.Rules.{typed, refused, _next_, judge}
 use Rattle.judging.specs.Phases.{partsOf, after3}
 use Rattle.judging.specs.Work.{Env, Frame}
-use Rattle.judging.specs.Contract.{Out, StepOut, Ready, Finds, Third, Some3}
+use Rattle.judging.specs.Contract.{Out, Ready, Finds, Some3, AnswersIn3}
 use Rattle.judging.proofs.Node.{count, read-whole}
-use Rattle.judging.proofs.Buffer.{env-same, frame-then, frame-part, frame-slot, out-refused, Gave, out-typed, step-stop, step-go}
+use Rattle.judging.proofs.Buffer.{env-same, frame-then, frame-part, frame-slot, out-refused, Gave, out-typed}
 use Rattle.judging.proofs.typing.Parts.{three-15, third, refused-next, typed-then, part-3, place-of, place3-third, three-rest}
 use Rattle.judging.proofs.typing.One.{finds, given}
 use Rattle.judging.proofs.typing.Two.{After2}
@@ -77,29 +75,15 @@ module _ {img w w6 : List ℕ} {at v n left p3 l2 : ℕ} (D : Due3 img w w6 at v
           let g = gave-3 R in
           (v, R .x, given R w7 (frame-7 .long), three-15 (getD img at 0) (W .some) (W .most) (W .is .how-many ∙ read-3 R .1), g .type, g .slotted)
 
-      -- after the step
-      module _ {s3 : Step} {w8 : List ℕ} (A3 : Third img w7 w8 at n left p3 l2 m3 s3) where
-        frame-8 : Frame w w8 v left
-        frame-8 = frame-then v left frame-7 (frame-slot v left (A3 .kept) (D .after .ready .deep))
-
-        step-3 : (R : Ready img w at v n left) → StepOut w8 left n (after3 (R .x) l2 (gave-3 R .type) m3) s3
-        step-3 R =
+      -- after what is done then
+      module _ {s3 : Answer} {w8 : List ℕ} (A : AnswersIn3 img at p3 w7 w8 left l2 m3 p4 s3) where
+        pub ends-3 : Finds img w w8 at v n left s3
+        ends-3 =
+            let A3 = A n some-3 in
+            finds (D .after .ready) (frame-then v left frame-7 (frame-slot v left (A3 .kept) (D .after .ready .deep))) λ R.
+            let y : judge (R .env) (R .x) ≡ after3 (R .x) l2 (gave-3 R .type) m3 = at-3 R ∙ typed-then _ (gave-3 R .is) in
+            let o =
             A3 .says v (R .x) (given R w7 (frame-7 .long))
             (place3-third (partsOf (R .x)) (read-3 R .1) ∙ place-of (left - 1) v n img p3 (third (partsOf (R .x))) (R .next) (read-3 R .0))
-            (D .after .each R .small) (gave-3 R .type) (gave-3 R .slotted) (gave-3 R .small)
-
-        from-3 : (R : Ready img w at v n left) → judge (R .env) (R .x) ≡ after3 (R .x) l2 (gave-3 R .type) m3
-        from-3 R = at-3 R ∙ typed-then _ (gave-3 R .is)
-
-        pub stop-3 : {k p : ℕ} → s3 ≡ Stop k p → Finds img w w8 at v n left (Refused k p)
-        stop-3 {k} {p} f =
-            finds (D .after .ready) frame-8 λ R.
-            let y : judge (R .env) (R .x) ≡ refused k p = from-3 R ∙ step-stop w8 left n _ (step-3 R) f in
-            rw y
-
-        pub done-3 : {l3 : ℕ} → s3 ≡ Go l3 → Finds img w w8 at v n left (Typed p4 l3)
-        done-3 {l3} f =
-            finds (D .after .ready) frame-8 λ R.
-            let W = step-go w8 left n _ (step-3 R) f in
-            let y : judge (R .env) (R .x) ≡ typed (W .type) l3 = from-3 R ∙ W .is in
-            rw y (ap (λ (p : ℕ). Typed p l3) (sym (gave-3 R .next-is)), W .slotted, W .small)
+            (D .after .each R .small) (gave-3 R .type) (gave-3 R .slotted) (gave-3 R .small) in
+            subst (λ (p : ℕ). Out w8 left n p (judge (R .env) (R .x)) s3) (sym (gave-3 R .next-is)) (rw y o)

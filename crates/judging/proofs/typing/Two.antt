@@ -1,9 +1,11 @@
 -- The walk over an expression's second part: what the calls may ask, and what each way out answers.
 use mathlib.Core.Path.{_≡_, ap, sym, _∙_, subst}
+use mathlib.Core.Bool.{Bool, true, false}
 use mathlib.Core.List.{List}
 use Prim.Native.Nat.{ℕ, _-_, _^_, _<_}
 use native.Mathlib.Omega.{arith}
 use native.Mathlib.Nat.{add-zero}
+use lib.Bits.{bitOr}
 use lib.ListN.{getD}
 use Rattle.paper.specs.Types.{Ty}
 use Rattle.paper.specs.Reading.{got}
@@ -11,19 +13,18 @@ use Rattle.reading.specs.First.{expAt}
 use Rattle.reading.specs.Walk.{parts}
 use Rattle.judging.specs.declared.work.Answer.{Answer}
 use Rattle.judging.specs.declared.work.Answer.the-variants.{Typed, Refused}
-use Rattle.judging.specs.declared.work.Step.{Step}
-use Rattle.judging.specs.declared.work.Step.the-variants.{Go, Stop}
 use Rattle.judging.specs.Rules.{typed, refused, _next_, judge}
 use Rattle.judging.specs.Phases.{partsOf, env2, after2}
 use Rattle.judging.specs.Work.{Env, Frame, InSlot}
-use Rattle.judging.specs.Contract.{Out, StepOut, Ready, Finds, Second, Some2}
+use Rattle.judging.specs.Contract.{Out, Ready, Finds, Second, Some2, AnswersIn2, TestsIn2}
+use Rattle.judging.proofs.Walked.{next-same}
 use Rattle.judging.proofs.Node.{count, read-whole}
-use Rattle.judging.proofs.Buffer.{env-same, slot-same, frame-then, frame-part, frame-slot, out-refused, Gave, out-typed, step-stop, Went, step-go}
+use Rattle.judging.proofs.Buffer.{env-same, slot-same, frame-then, frame-part, frame-slot, out-refused, Gave, out-typed}
 use Rattle.judging.proofs.binding.Env.{binds2-other, env2-other}
-use Rattle.judging.proofs.typing.Parts.{second, rest2, refused-next, typed-then, Then2, part-2, place-of, place2-second, two-rest, two-more, two-last}
+use Rattle.judging.proofs.typing.Parts.{second, rest2, next-typed, refused-next, typed-then, Then2, part-2, place-of, place2-second, two-rest, two-more, two-last}
 use Rattle.judging.proofs.typing.One.{finds, given, some-left, After1}
 
--- what the step after the second part leaves: a type in the slot, the need so far, and what the rules' judge still does
+-- what is left after the second part, where there is a third: a type in the slot, the need so far, and what the rules' judge still does
 pub record Goes2 (img w w6 : List ℕ) (at v n left p3 l2 : ℕ) (R : Ready img w at v n left) : Type 0 where
   pub type : Ty
   pub slotted : InSlot w6 left n type
@@ -115,13 +116,13 @@ module _ {img w w3 : List ℕ} {at v n left p2 l1 : ℕ} (D : Due2 img w w3 at v
       pub some-2 : Some2 img w5 at n left
       some-2 = let R = D .after .ready in let g = gave-2 R in (v, R .x, given R w5 (frame-5 .long), D .after .each R .type, still R, g .type, g .slotted, l1, D .after .each R .was)
 
-      -- after the step
-      module _ {s2 : Step} {w6 : List ℕ} (A2 : Second img w5 w6 at n left p2 l1 m2 s2) where
+      -- after what is done then
+      module _ {s2 : Answer} {w6 : List ℕ} (A2 : Second img w5 w6 at n left p2 l1 m2 p3 s2) where
         frame-6 : Frame w w6 v left
         frame-6 = frame-then v left frame-5 (frame-slot v left (A2 .kept) (D .after .ready .deep))
 
-        step-2 : (R : Ready img w at v n left) → StepOut w6 left n (after2 (R .x) (D .after .each R .type) l1 (gave-2 R .type) m2) s2
-        step-2 R =
+        out-6 : (R : Ready img w at v n left) → Out w6 left n p3 (after2 (R .x) (D .after .each R .type) l1 (gave-2 R .type) m2) s2
+        out-6 R =
             A2 .says v (R .x) (given R w5 (frame-5 .long))
             (place2-second (partsOf (R .x)) (D .after .each R .not0) (more1 R) ∙ place-of (left - 1) v n img p2 (second (partsOf (R .x))) (read-2 R .q) (read-2 R .part))
             (D .after .each R .type) (D .after .each R .was) (still R) (D .after .each R .small) (gave-2 R .type) (gave-2 R .slotted) (gave-2 R .small)
@@ -129,19 +130,33 @@ module _ {img w w3 : List ℕ} {at v n left p2 l1 : ℕ} (D : Due2 img w w3 at v
         from-2 : (R : Ready img w at v n left) → judge (R .env) (R .x) ≡ (after2 (R .x) (D .after .each R .type) l1 (gave-2 R .type) m2 next λ t o. rest2 (R .env) (R .x) (partsOf (R .x)) t o)
         from-2 R = at-2 R ∙ typed-then _ (gave-2 R .is)
 
-        pub stop-2 : {k p : ℕ} → s2 ≡ Stop k p → Finds img w w6 at v n left (Refused k p)
+        more-2 : (R : Ready img w at v n left) → Then2 (left - 1) v n img p3 (R .next) (partsOf (R .x))
+        more-2 R = subst (λ (q : ℕ). Then2 (left - 1) v n img q (R .next) (partsOf (R .x))) (gave-2 R .next-is) (read-2 R .after)
+
+        -- there is no third part
+        last-2 : parts (getD img at 0) ≡ 2 → Finds img w w6 at v n left s2
+        last-2 f =
+            finds (D .after .ready) frame-6 λ R.
+            let z : count (partsOf (R .x)) ≡ 2 = sym (D .after .each R .many) ∙ f in
+            let y : judge (R .env) (R .x) ≡ after2 (R .x) (D .after .each R .type) l1 (gave-2 R .type) m2 =
+            from-2 R ∙ next-same _ _ _ (λ k l. two-last (R .env) (R .x) (partsOf (R .x)) k l z) ∙ next-typed _ in
+            let q : p3 ≡ R .next = two-more (left - 1) v n img p3 (R .next) (partsOf (R .x)) z (more-2 R) in
+            subst (λ (p : ℕ). Out w6 left n p (judge (R .env) (R .x)) s2) q (rw y (out-6 R))
+
+        -- there is one
+        stop-2 : {k p : ℕ} → s2 ≡ Refused k p → Finds img w w6 at v n left (Refused k p)
         stop-2 {k} {p} f =
             finds (D .after .ready) frame-6 λ R.
-            let z = step-stop w6 left n _ (step-2 R) f in
+            let z = out-refused w6 left n p3 _ (out-6 R) f in
             let y : judge (R .env) (R .x) ≡ refused k p = from-2 R ∙ refused-next _ z in
             rw y
 
-        pub after-2 : {l2 : ℕ} → s2 ≡ Go l2 → After2 img w w6 at v n left p3 l2
+        after-2 : {l2 : ℕ} → s2 ≡ Typed p3 l2 → After2 img w w6 at v n left p3 l2
         after-2 {l2} f = record { ready = D .after .ready; frame = frame-6; each = goes }
           where
             goes : (R : Ready img w at v n left) → Goes2 img w w6 at v n left p3 l2 R
             goes R =
-                let W : Went w6 left n (after2 (R .x) (D .after .each R .type) l1 (gave-2 R .type) m2) l2 = step-go w6 left n _ (step-2 R) f in
+                let W : Gave w6 left n p3 (after2 (R .x) (D .after .each R .type) l1 (gave-2 R .type) m2) p3 l2 = out-typed w6 left n p3 _ (out-6 R) f in
                 record {
                   type = W .type;
                   slotted = W .slotted;
@@ -150,15 +165,16 @@ module _ {img w w3 : List ℕ} {at v n left p2 l1 : ℕ} (D : Due2 img w w3 at v
                   not0 = D .after .each R .not0;
                   not1 = more1 R;
                   many = D .after .each R .many;
-                  more = subst (λ (q : ℕ). Then2 (left - 1) v n img q (R .next) (partsOf (R .x))) (gave-2 R .next-is) (read-2 R .after);
+                  more = more-2 R;
                 }
 
--- ---- the step after the second part went on, and there is no third
-pub done-2 : {img w w6 : List ℕ} {at v n left p3 l2 : ℕ} → After2 img w w6 at v n left p3 l2 → parts (getD img at 0) ≡ 2 → Finds img w w6 at v n left (Typed p3 l2)
-done-2 {img} {left = left} {p3 = p3} {l2 = l2} A f =
-    finds (A .ready) (A .frame) λ R.
-    let G = A .each R in
-    let z : count (partsOf (R .x)) ≡ 2 = sym (G .many) ∙ f in
-    let y : judge (R .env) (R .x) ≡ typed (G .type) l2 = G .on ∙ two-last (R .env) (R .x) (partsOf (R .x)) _ l2 z in
-    let q : p3 ≡ R .next = two-more (left - 1) _ _ img p3 (R .next) (partsOf (R .x)) z (G .more) in
-    rw y (ap (λ (p : ℕ). Typed p l2) q, G .slotted, G .small)
+      -- as the functions answer
+      pub ends-2 : {b : ℕ} {s2 : Answer} {w6 : List ℕ} → AnswersIn2 (λ k. k ≡ b) img at p2 w5 w6 left l1 m2 p3 s2 → getD img at 0 ≡ b → parts (getD img at 0) ≡ 2 → Finds img w w6 at v n left s2
+      ends-2 A e = last-2 (A n some-2 e)
+
+      module _ {b : ℕ} {ok : Bool} {w6 : List ℕ} (A : TestsIn2 (λ k. k ≡ b) img at w5 w6 left ok) (e : getD img at 0 ≡ b) where
+        pub other-2 : ok ≡ false → Finds img w w6 at v n left (Refused 12 p2)
+        other-2 f = stop-2 (A p2 l1 m2 p3 n some-2 e) (rw f)
+
+        pub fits-2 : ok ≡ true → After2 img w w6 at v n left p3 (bitOr l1 m2)
+        fits-2 f = after-2 (A p2 l1 m2 p3 n some-2 e) (rw f)

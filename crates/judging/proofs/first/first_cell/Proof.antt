@@ -11,7 +11,7 @@ use Rattle.judging.proofs.first.first_cell.Tie as tie
 sub-slot-of : tie.Need-sub-slot-of
 sub-slot-of c =
     let at-start = c .before .before .before in
-    facts (at-start .pre .0) .0
+    facts (at-start .pre .1) .0
 
 slot-of-requires : tie.Need-slot-of-requires
 slot-of-requires c κs = search needs
@@ -19,7 +19,7 @@ slot-of-requires c κs = search needs
 add-related : tie.Need-add-related
 add-related c =
     let at-start = c .before .before .before .before in
-    omega (arith, facts (at-start .pre .0))
+    omega (arith, facts (at-start .pre .1))
 
 related-requires : tie.Need-related-requires
 related-requires c κs = search needs
@@ -33,23 +33,23 @@ enum-told-2 c = search needs
 add-skip : tie.Need-add-skip
 add-skip c =
     let at-start = c .before .before .before .before .before .before .before in
-    omega (arith, facts (at-start .pre .0))
+    omega (arith, facts (at-start .pre .1))
 
 skip-requires : tie.Need-skip-requires
 skip-requires c κs =
     let at-start = c .before .before .before .before .before .before .before in
-    cell-there (at-start .pre .0) (at-start .pre .1)
+    cell-there (at-start .pre .1) (at-start .pre .2)
 
 add-size : tie.Need-add-size
 add-size c =
     let at-start = c .before .before .before .before .before .before .before .before in
-    omega (arith, facts (at-start .pre .0))
+    omega (arith, facts (at-start .pre .1))
 
 sub-size : tie.Need-sub-size
 sub-size c =
     let at-skip = c in
     let at-start = c .before .before .before .before .before .before .before .before in
-    cell-room (at-start .pre .0) (at-start .pre .1) (at-skip .skip .result) (at-skip .skip .ensures) .0
+    cell-room (at-start .pre .1) (at-start .pre .2) (at-skip .skip .result) (at-skip .skip .ensures) .0
 
 same-length : tie.Need-same-length
 same-length c = search needs
@@ -61,8 +61,7 @@ returns c =
     let at-enum-told2 = c .before .before in
     let at-related = c .before .before .before .before in
     let at-slot-of = c .before .before .before .before .before in
-    let at-start = c .before .before .before .before .before .before .before .before .before in
-    cell-10 (at-start .pre .0) (at-start .pre .1) (rw (at-slot-of .slot-of .ensures) at (at-related .related .ensures)) (at-enum-told2 .enum-told2 .given .1) (at-skip .skip .ensures) (at-if1 .if1 .taken)
+    λ n O e. cell-10 O e (rw (at-slot-of .slot-of .ensures) at (at-related .related .ensures)) (at-enum-told2 .enum-told2 .given .1) (at-skip .skip .ensures) (at-if1 .if1 .taken)
 
 slot-of-requires-2 : tie.Need-slot-of-requires-2
 slot-of-requires-2 c κs = search needs
@@ -70,13 +69,13 @@ slot-of-requires-2 c κs = search needs
 add-name : tie.Need-add-name
 add-name c =
     let at-start = c .before .before .before .before .before .before .before .before .before .before in
-    omega (arith, facts (at-start .pre .0))
+    omega (arith, facts (at-start .pre .1))
 
 shared-slice-read-name : tie.Need-shared-slice-read-name
 shared-slice-read-name c =
     let at-skip = c .before .before .before in
     let at-start = c .before .before .before .before .before .before .before .before .before .before .before in
-    omega (arith, cell-room (at-start .pre .0) (at-start .pre .1) (at-skip .skip .result) (at-skip .skip .ensures))
+    omega (arith, cell-room (at-start .pre .1) (at-start .pre .2) (at-skip .skip .result) (at-skip .skip .ensures))
 
 slice-write-work : tie.Need-slice-write-work
 slice-write-work c = search needs
@@ -88,13 +87,13 @@ slice-write-work-2 : tie.Need-slice-write-work-2
 slice-write-work-2 c =
     let at-slot-of2 = c .before in
     let at-start = c .before .before .before .before .before .before .before .before .before .before .before in
-    let z = facts (at-start .pre .0) in simp length-set (omega (arith, at-slot-of2 .slot-of2 .ensures))
+    let z = facts (at-start .pre .1) in simp length-set (omega (arith, at-slot-of2 .slot-of2 .ensures))
 
 add-copy-in : tie.Need-add-copy-in
 add-copy-in c =
     let at-slot-of2 = c .before in
     let at-start = c .before .before .before .before .before .before .before .before .before .before .before in
-    let z = facts (at-start .pre .0) in omega (arith, at-slot-of2 .slot-of2 .ensures)
+    let z = facts (at-start .pre .1) in omega (arith, at-slot-of2 .slot-of2 .ensures)
 
 add-copy-in-2 : tie.Need-add-copy-in-2
 add-copy-in-2 c = search needs
@@ -104,7 +103,7 @@ copy-in-requires c κs =
     let at-slot-of2 = c .before .before in
     let at-skip = c .before .before .before .before in
     let at-start = c .before .before .before .before .before .before .before .before .before .before .before .before in
-    let z = facts (at-start .pre .0) in let y = cell-room (at-start .pre .0) (at-start .pre .1) (at-skip .skip .result) (at-skip .skip .ensures) in (omega arith, simp length-set (omega (arith, at-slot-of2 .slot-of2 .ensures)))
+    let z = facts (at-start .pre .1) in let y = cell-room (at-start .pre .1) (at-start .pre .2) (at-skip .skip .result) (at-skip .skip .ensures) in (omega arith, simp length-set (omega (arith, at-slot-of2 .slot-of2 .ensures)))
 
 same-length-2 : tie.Need-same-length-2
 same-length-2 c = search needs
@@ -114,8 +113,7 @@ returns-2 c =
     let at-enum-told = c in
     let at-related = c .before .before in
     let at-slot-of = c .before .before .before in
-    let at-start = c .before .before .before .before .before .before .before in
-    cell-12 (at-start .pre .0) (at-start .pre .1) (rw (at-slot-of .slot-of .ensures) at (at-related .related .ensures)) (at-enum-told .enum-told .given .1)
+    λ n O e. cell-12 O e (rw (at-slot-of .slot-of .ensures) at (at-related .related .ensures)) (at-enum-told .enum-told .given .1)
 
 same-length-3 : tie.Need-same-length-3
 same-length-3 c =
@@ -131,8 +129,7 @@ returns-3 c =
     let at-enum-told2 = c .before .before .before .before .before .before .before .before in
     let at-related = c .before .before .before .before .before .before .before .before .before .before in
     let at-slot-of = c .before .before .before .before .before .before .before .before .before .before .before in
-    let at-start = c .before .before .before .before .before .before .before .before .before .before .before .before .before .before .before in
-    cell-go (at-start .pre .0) (at-start .pre .1) (rw (at-slot-of .slot-of .ensures) at (at-related .related .ensures)) (at-enum-told2 .enum-told2 .given .1) (at-skip .skip .ensures) _ (at-if1 .if1 .left) (rw (at-slot-of2 .slot-of2 .ensures) at (at-copy-in .copy-in .ensures))
+    λ n O e. cell-go O e (rw (at-slot-of .slot-of .ensures) at (at-related .related .ensures)) (at-enum-told2 .enum-told2 .given .1) (at-skip .skip .ensures) _ (at-if1 .if1 .left) (rw (at-slot-of2 .slot-of2 .ensures) at (at-copy-in .copy-in .ensures))
 
 pub first-cell-spec : {M : Type 1} → statement M
 first-cell-spec =

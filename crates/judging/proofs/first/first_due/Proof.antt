@@ -6,8 +6,8 @@ use Rattle.judging.proofs.first.first_due.Tie as tie
 
 sub-slot-of : tie.Need-sub-slot-of
 sub-slot-of c =
-    let at-start = c .before .before in
-    facts (at-start .pre .0) .0
+    let at-start = c .before in
+    facts (at-start .pre .2 .1) .0
 
 slot-of-requires : tie.Need-slot-of-requires
 slot-of-requires c κs = search needs
@@ -19,8 +19,7 @@ returns : tie.Need-returns
 returns c =
     let at-if1 = c in
     let at-slot-of = c .before .before in
-    let at-start = c .before .before .before .before .before in
-    due-stop (at-start .pre .0) _ (at-start .pre .1) (rw (at-slot-of .slot-of .ensures) at (at-if1 .if1 .taken))
+    λ part need next img at n O e. due-stop O _ e (rw (at-slot-of .slot-of .ensures) at (at-if1 .if1 .taken))
 
 slot-of-requires-2 : tie.Need-slot-of-requires-2
 slot-of-requires-2 c κs = search needs
@@ -29,8 +28,8 @@ copy-requires : tie.Need-copy-requires
 copy-requires c κs =
     let at-slot-of2 = c in
     let at-slot-of = c .before .before .before .before in
-    let at-start = c .before .before .before .before .before .before .before in
-    rw (at-slot-of .slot-of .ensures, at-slot-of2 .slot-of2 .ensures) (part-movable (at-start .pre .0))
+    let at-start = c .before .before .before .before .before .before in
+    rw (at-slot-of .slot-of .ensures, at-slot-of2 .slot-of2 .ensures) (part-movable (at-start .pre .2 .1))
 
 same-length : tie.Need-same-length
 same-length c = search needs
@@ -41,8 +40,7 @@ returns-2 c =
     let at-slot-of2 = c .before .before .before in
     let at-if1 = c .before .before .before .before .before in
     let at-slot-of = c .before .before .before .before .before .before .before in
-    let at-start = c .before .before .before .before .before .before .before .before .before .before in
-    due-first (at-start .pre .0) _ _ (at-start .pre .1) (rw (at-slot-of .slot-of .ensures) at (at-if1 .if1 .left)) (rw (at-slot-of .slot-of .ensures, at-slot-of2 .slot-of2 .ensures) at (at-copy .copy .ensures))
+    λ part need next img at n O e. due-first O _ _ e (rw (at-slot-of .slot-of .ensures) at (at-if1 .if1 .left)) (rw (at-slot-of .slot-of .ensures, at-slot-of2 .slot-of2 .ensures) at (at-copy .copy .ensures))
 
 pub first-due-spec : {M : Type 1} → statement M
 first-due-spec =

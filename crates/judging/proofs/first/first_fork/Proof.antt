@@ -7,8 +7,7 @@ use Rattle.judging.proofs.first.first_fork.Tie as tie
 
 returns : tie.Need-returns
 returns c =
-    let at-start = c .before .before .before in
-    fork-stop (at-start .pre .0) (at-start .pre .1) (λ z. omega arith)
+    λ img part n O e. fork-stop O e (λ z. omega arith)
 
 slot-of-requires : tie.Need-slot-of-requires
 slot-of-requires c κs = search needs
@@ -22,8 +21,7 @@ same-length c = search needs
 returns-2 : tie.Need-returns-2
 returns-2 c =
     let at-slot-of = c in
-    let at-start = c .before .before .before .before in
-    rw (at-slot-of .slot-of .ensures) (fork-first (at-start .pre .0) (at-start .pre .1) (omega arith))
+    λ img part n O e. rw (at-slot-of .slot-of .ensures) (fork-first O e (omega arith))
 
 pub first-fork-spec : {M : Type 1} → statement M
 first-fork-spec =

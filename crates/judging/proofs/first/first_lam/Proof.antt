@@ -10,31 +10,30 @@ use Rattle.judging.proofs.first.first_lam.Tie as tie
 add-skip : tie.Need-add-skip
 add-skip c =
     let at-start = c .before .before in
-    omega (arith, facts (at-start .pre .0))
+    omega (arith, facts (at-start .pre .1))
 
 skip-requires : tie.Need-skip-requires
 skip-requires c κs =
     let at-start = c .before .before in
-    lam-there (at-start .pre .0) (at-start .pre .1)
+    lam-there (at-start .pre .1) (at-start .pre .2)
 
 number-requires : tie.Need-number-requires
 number-requires c κs =
     let at-skip = c in
     let at-start = c .before .before .before in
-    lam-room (at-start .pre .0) (at-start .pre .1) (at-skip .skip .result) (at-skip .skip .ensures) .1
+    lam-room (at-start .pre .1) (at-start .pre .2) (at-skip .skip .result) (at-skip .skip .ensures) .1
 
 returns : tie.Need-returns
 returns c =
     let at-if1 = c in
     let at-number = c .before in
     let at-skip = c .before .before in
-    let at-start = c .before .before .before .before .before in
-    lam-13 (at-start .pre .0) (at-start .pre .1) (at-skip .skip .ensures) (rw (at-number .number .ensures) at (at-if1 .if1 .taken))
+    λ part n O e. lam-13 O e (at-skip .skip .ensures) (rw (at-number .number .ensures) at (at-if1 .if1 .taken))
 
 sub-slot-of : tie.Need-sub-slot-of
 sub-slot-of c =
     let at-start = c .before .before .before .before .before in
-    facts (at-start .pre .0) .0
+    facts (at-start .pre .1) .0
 
 slot-of-requires : tie.Need-slot-of-requires
 slot-of-requires c κs = search needs
@@ -43,25 +42,25 @@ skip-requires-2 : tie.Need-skip-requires-2
 skip-requires-2 c κs =
     let at-slot-of = c .before in
     let at-start = c .before .before .before .before .before .before .before in
-    rw (at-slot-of .slot-of .ensures) (lam-result (at-start .pre .0) (at-start .pre .1))
+    rw (at-slot-of .slot-of .ensures) (lam-result (at-start .pre .1) (at-start .pre .2))
 
 add-size : tie.Need-add-size
 add-size c =
     let at-start = c .before .before .before .before .before .before .before .before in
-    omega (arith, facts (at-start .pre .0))
+    omega (arith, facts (at-start .pre .1))
 
 sub-size : tie.Need-sub-size
 sub-size c =
     let at-skip = c .before .before .before .before .before in
     let at-start = c .before .before .before .before .before .before .before .before in
-    lam-room (at-start .pre .0) (at-start .pre .1) (at-skip .skip .result) (at-skip .skip .ensures) .0
+    lam-room (at-start .pre .1) (at-start .pre .2) (at-skip .skip .result) (at-skip .skip .ensures) .0
 
 sub-rest : tie.Need-sub-rest
 sub-rest c =
     let at-skip2 = c in
     let at-slot-of = c .before .before in
     let at-start = c .before .before .before .before .before .before .before .before in
-    rw (at-slot-of .slot-of .ensures) (res-room (at-start .pre .0) (at-start .pre .1) (at-skip2 .skip2 .result) (rw (at-slot-of .slot-of .ensures) at (at-skip2 .skip2 .ensures)) .0)
+    rw (at-slot-of .slot-of .ensures) (res-room (at-start .pre .1) (at-start .pre .2) (at-skip2 .skip2 .result) (rw (at-slot-of .slot-of .ensures) at (at-skip2 .skip2 .ensures)) .0)
 
 add-if2 : tie.Need-add-if2
 add-if2 c =
@@ -69,7 +68,7 @@ add-if2 c =
     let at-slot-of = c .before .before in
     let at-skip = c .before .before .before .before .before in
     let at-start = c .before .before .before .before .before .before .before .before in
-    let y = lam-room (at-start .pre .0) (at-start .pre .1) (at-skip .skip .result) (at-skip .skip .ensures) in let x = res-room (at-start .pre .0) (at-start .pre .1) (at-skip2 .skip2 .result) (rw (at-slot-of .slot-of .ensures) at (at-skip2 .skip2 .ensures)) in omega (arith, at-start .good)
+    let y = lam-room (at-start .pre .1) (at-start .pre .2) (at-skip .skip .result) (at-skip .skip .ensures) in let x = res-room (at-start .pre .1) (at-start .pre .2) (at-skip2 .skip2 .result) (rw (at-slot-of .slot-of .ensures) at (at-skip2 .skip2 .ensures)) in omega (arith, at-start .good)
 
 same-length : tie.Need-same-length
 same-length c = search needs
@@ -82,8 +81,7 @@ returns-2 c =
     let at-if1 = c .before .before .before .before in
     let at-number = c .before .before .before .before .before in
     let at-skip = c .before .before .before .before .before .before in
-    let at-start = c .before .before .before .before .before .before .before .before .before in
-    lam-10 (at-start .pre .0) (at-start .pre .1) (at-skip .skip .ensures) (rw (at-number .number .ensures) at (at-if1 .if1 .left)) (rw (at-slot-of .slot-of .ensures) at (at-skip2 .skip2 .ensures)) (rw (at-slot-of .slot-of .ensures) at (at-if2 .if2 .taken))
+    λ part n O e. lam-10 O e (at-skip .skip .ensures) (rw (at-number .number .ensures) at (at-if1 .if1 .left)) (rw (at-slot-of .slot-of .ensures) at (at-skip2 .skip2 .ensures)) (rw (at-slot-of .slot-of .ensures) at (at-if2 .if2 .taken))
 
 array-write-own : tie.Need-array-write-own
 array-write-own c = search needs
@@ -91,7 +89,7 @@ array-write-own c = search needs
 add-copy-in : tie.Need-add-copy-in
 add-copy-in c =
     let at-start = c .before .before .before .before .before .before .before .before .before in
-    omega (arith, facts (at-start .pre .0))
+    omega (arith, facts (at-start .pre .1))
 
 slice-aggregate-copy-in : tie.Need-slice-aggregate-copy-in
 slice-aggregate-copy-in c = search needs
@@ -101,7 +99,7 @@ copy-in-requires c κs =
     let at-if2 = c .before in
     let at-skip = c .before .before .before .before .before .before .before in
     let at-start = c .before .before .before .before .before .before .before .before .before .before in
-    let y = lam-room (at-start .pre .0) (at-start .pre .1) (at-skip .skip .result) (at-skip .skip .ensures) in (omega arith, omega (arith, at-if2 .if2 .left))
+    let y = lam-room (at-start .pre .1) (at-start .pre .2) (at-skip .skip .result) (at-skip .skip .ensures) in (omega arith, omega (arith, at-if2 .if2 .left))
 
 slice-aggregate-put4 : tie.Need-slice-aggregate-put4
 slice-aggregate-put4 c = search needs
@@ -152,8 +150,7 @@ returns-3 c =
     let at-if1 = c .before .before .before .before .before .before .before .before .before .before .before .before .before .before .before .before .before .before .before .before in
     let at-number = c .before .before .before .before .before .before .before .before .before .before .before .before .before .before .before .before .before .before .before .before .before in
     let at-skip = c .before .before .before .before .before .before .before .before .before .before .before .before .before .before .before .before .before .before .before .before .before .before in
-    let at-start = c .before .before .before .before .before .before .before .before .before .before .before .before .before .before .before .before .before .before .before .before .before .before .before .before .before in
-    lam-go (at-start .pre .0) (at-start .pre .1) (at-skip .skip .ensures) (rw (at-number .number .ensures) at (at-if1 .if1 .left)) (rw (at-slot-of .slot-of .ensures) at (at-skip2 .skip2 .ensures)) _ (at-copy-in .copy-in .last .1 .1 .1 .0) _ _ (rw (at-slot-of .slot-of .ensures) at (at-if2 .if2 .left)) refl (omega arith, refl) (at-copy-in .copy-in .ensures) (rw (at-put4 .put4 .ensures, at-number .number .ensures, at-slot-of .slot-of .ensures) at (at-copy-in2 .copy-in2 .ensures)) (rw (at-slot-of2 .slot-of2 .ensures, at-slot-of .slot-of .ensures) at (at-copy-in3 .copy-in3 .ensures))
+    λ part n O e. lam-go O e (at-skip .skip .ensures) (rw (at-number .number .ensures) at (at-if1 .if1 .left)) (rw (at-slot-of .slot-of .ensures) at (at-skip2 .skip2 .ensures)) _ (at-copy-in .copy-in .last .1 .1 .1 .0) _ _ (rw (at-slot-of .slot-of .ensures) at (at-if2 .if2 .left)) refl (omega arith, refl) (at-copy-in .copy-in .ensures) (rw (at-put4 .put4 .ensures, at-number .number .ensures, at-slot-of .slot-of .ensures) at (at-copy-in2 .copy-in2 .ensures)) (rw (at-slot-of2 .slot-of2 .ensures, at-slot-of .slot-of .ensures) at (at-copy-in3 .copy-in3 .ensures))
 
 pub first-lam-spec : {M : Type 1} → statement M
 first-lam-spec =

@@ -10,8 +10,8 @@ slot-of-requires c κs = search needs
 
 sub-slot-of : tie.Need-sub-slot-of
 sub-slot-of c =
-    let at-start = c .before .before .before .before in
-    facts (at-start .pre .0) .0
+    let at-start = c .before .before .before in
+    facts (at-start .pre .2 .1) .0
 
 slot-of-requires-2 : tie.Need-slot-of-requires-2
 slot-of-requires-2 c κs = search needs
@@ -20,16 +20,16 @@ copy-requires : tie.Need-copy-requires
 copy-requires c κs =
     let at-slot-of2 = c in
     let at-slot-of = c .before .before in
-    let at-start = c .before .before .before .before .before in
-    rw (at-slot-of .slot-of .ensures, at-slot-of2 .slot-of2 .ensures) (part-movable (at-start .pre .0))
+    let at-start = c .before .before .before .before in
+    rw (at-slot-of .slot-of .ensures, at-slot-of2 .slot-of2 .ensures) (part-movable (at-start .pre .2 .1))
 
 lower-requires : tie.Need-lower-requires
 lower-requires c κs =
     let at-copy = c .before .before .before in
     let at-slot-of2 = c .before .before .before .before in
     let at-slot-of = c .before .before .before .before .before .before in
-    let at-start = c .before .before .before .before .before .before .before .before .before in
-    rw (at-slot-of .slot-of .ensures) (lock-able (at-start .pre .0) _ (at-start .pre .1) (rw (at-slot-of2 .slot-of2 .ensures, at-slot-of .slot-of .ensures) at (at-copy .copy .ensures)))
+    let at-start = c .before .before .before .before .before .before .before .before in
+    rw (at-slot-of .slot-of .ensures) (lock-able (at-start .pre .2 .1) _ (at-start .pre .2 .2) (rw (at-slot-of2 .slot-of2 .ensures, at-slot-of .slot-of .ensures) at (at-copy .copy .ensures)))
 
 enum-told : tie.Need-enum-told
 enum-told c = search needs
@@ -47,8 +47,7 @@ returns c =
     let at-copy = c .before .before .before .before .before .before .before .before in
     let at-slot-of2 = c .before .before .before .before .before .before .before .before .before in
     let at-slot-of = c .before .before .before .before .before .before .before .before .before .before .before in
-    let at-start = c .before .before .before .before .before .before .before .before .before .before .before .before .before .before in
-    lock-15 (at-start .pre .0) (at-start .pre .1) (rw (at-slot-of2 .slot-of2 .ensures, at-slot-of .slot-of .ensures) at (at-copy .copy .ensures)) (rw (at-slot-of .slot-of .ensures) at (at-lower .lower .ensures)) (at-enum-told .enum-told .given .1)
+    λ img part n O e. lock-15 O e (rw (at-slot-of2 .slot-of2 .ensures, at-slot-of .slot-of .ensures) at (at-copy .copy .ensures)) (rw (at-slot-of .slot-of .ensures) at (at-lower .lower .ensures)) (at-enum-told .enum-told .given .1)
 
 same-length-2 : tie.Need-same-length-2
 same-length-2 c = search needs
@@ -61,8 +60,7 @@ returns-2 c =
     let at-copy = c .before .before .before .before .before .before .before .before .before in
     let at-slot-of2 = c .before .before .before .before .before .before .before .before .before .before in
     let at-slot-of = c .before .before .before .before .before .before .before .before .before .before .before .before in
-    let at-start = c .before .before .before .before .before .before .before .before .before .before .before .before .before .before .before in
-    lock-first (at-start .pre .0) (at-start .pre .1) (rw (at-slot-of2 .slot-of2 .ensures, at-slot-of .slot-of .ensures) at (at-copy .copy .ensures)) (rw (at-slot-of .slot-of .ensures) at (at-lower .lower .ensures)) (at-enum-told2 .enum-told2 .given .1) (at-if1 .if1 .taken)
+    λ img part n O e. lock-first O e (rw (at-slot-of2 .slot-of2 .ensures, at-slot-of .slot-of .ensures) at (at-copy .copy .ensures)) (rw (at-slot-of .slot-of .ensures) at (at-lower .lower .ensures)) (at-enum-told2 .enum-told2 .given .1) (at-if1 .if1 .taken)
 
 same-length-3 : tie.Need-same-length-3
 same-length-3 c = search needs
@@ -75,8 +73,7 @@ returns-3 c =
     let at-copy = c .before .before .before .before .before .before .before .before .before in
     let at-slot-of2 = c .before .before .before .before .before .before .before .before .before .before in
     let at-slot-of = c .before .before .before .before .before .before .before .before .before .before .before .before in
-    let at-start = c .before .before .before .before .before .before .before .before .before .before .before .before .before .before .before in
-    lock-16 (at-start .pre .0) (at-start .pre .1) (rw (at-slot-of2 .slot-of2 .ensures, at-slot-of .slot-of .ensures) at (at-copy .copy .ensures)) (rw (at-slot-of .slot-of .ensures) at (at-lower .lower .ensures)) (at-enum-told2 .enum-told2 .given .1) (at-if1 .if1 .left)
+    λ img part n O e. lock-16 O e (rw (at-slot-of2 .slot-of2 .ensures, at-slot-of .slot-of .ensures) at (at-copy .copy .ensures)) (rw (at-slot-of .slot-of .ensures) at (at-lower .lower .ensures)) (at-enum-told2 .enum-told2 .given .1) (at-if1 .if1 .left)
 
 pub first-lock-spec : {M : Type 1} → statement M
 first-lock-spec =

@@ -7,8 +7,8 @@ use Rattle.judging.proofs.first.first_read.Tie as tie
 
 sub-slot-of : tie.Need-sub-slot-of
 sub-slot-of c =
-    let at-start = c .before .before in
-    facts (at-start .pre .0) .0
+    let at-start = c .before in
+    facts (at-start .pre .2 .1) .0
 
 slot-of-requires : tie.Need-slot-of-requires
 slot-of-requires c κs = search needs
@@ -20,8 +20,7 @@ returns : tie.Need-returns
 returns c =
     let at-if1 = c in
     let at-slot-of = c .before .before in
-    let at-start = c .before .before .before .before .before in
-    read-stop (at-start .pre .0) (at-start .pre .1) (rw (at-slot-of .slot-of .ensures) at (at-if1 .if1 .taken))
+    λ img at n O e. read-stop O e (rw (at-slot-of .slot-of .ensures) at (at-if1 .if1 .taken))
 
 add-k : tie.Need-add-k
 add-k c = search needs
@@ -40,15 +39,15 @@ copy-requires c κs =
     let at-slot-of2 = c in
     let at-if1 = c .before .before .before in
     let at-slot-of = c .before .before .before .before .before in
-    let at-start = c .before .before .before .before .before .before .before .before in
-    rw (at-slot-of .slot-of .ensures, at-slot-of2 .slot-of2 .ensures) (content-movable (at-start .pre .0) (at-start .pre .1) (rw (at-slot-of .slot-of .ensures) at (at-if1 .if1 .left)))
+    let at-start = c .before .before .before .before .before .before .before in
+    rw (at-slot-of .slot-of .ensures, at-slot-of2 .slot-of2 .ensures) (content-movable (at-start .pre .2 .1) (at-start .pre .2 .2) (rw (at-slot-of .slot-of .ensures) at (at-if1 .if1 .left)))
 
 only-requires : tie.Need-only-requires
 only-requires c κs =
     let at-if1 = c .before .before .before .before .before .before in
     let at-slot-of = c .before .before .before .before .before .before .before .before in
-    let at-start = c .before .before .before .before .before .before .before .before .before .before .before in
-    rw (at-slot-of .slot-of .ensures) (read-name (at-start .pre .0) (at-start .pre .1) (rw (at-slot-of .slot-of .ensures) at (at-if1 .if1 .left)))
+    let at-start = c .before .before .before .before .before .before .before .before .before .before in
+    rw (at-slot-of .slot-of .ensures) (read-name (at-start .pre .2 .1) (at-start .pre .2 .2) (rw (at-slot-of .slot-of .ensures) at (at-if1 .if1 .left)))
 
 same-length : tie.Need-same-length
 same-length c = search needs
@@ -60,8 +59,7 @@ returns-2 c =
     let at-slot-of2 = c .before .before .before .before in
     let at-if1 = c .before .before .before .before .before .before .before in
     let at-slot-of = c .before .before .before .before .before .before .before .before .before in
-    let at-start = c .before .before .before .before .before .before .before .before .before .before .before .before in
-    rw (at-only .only .ensures, at-slot-of .slot-of .ensures) (read-go (at-start .pre .0) (at-start .pre .1) _ (rw (at-slot-of .slot-of .ensures) at (at-if1 .if1 .left)) (rw (at-slot-of .slot-of .ensures, at-slot-of2 .slot-of2 .ensures) at (at-copy .copy .ensures)))
+    λ img at n O e. rw (at-only .only .ensures, at-slot-of .slot-of .ensures) (read-go O e _ (rw (at-slot-of .slot-of .ensures) at (at-if1 .if1 .left)) (rw (at-slot-of .slot-of .ensures, at-slot-of2 .slot-of2 .ensures) at (at-copy .copy .ensures)))
 
 pub first-read-spec : {M : Type 1} → statement M
 first-read-spec =

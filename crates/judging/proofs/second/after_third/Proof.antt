@@ -8,7 +8,7 @@ use Rattle.judging.proofs.second.after_third.Tie as tie
 sub-slot-of : tie.Need-sub-slot-of
 sub-slot-of c =
     let at-start = c .before .before .before in
-    facts (at-start .pre) .0
+    facts (at-start .pre .1) .0
 
 slot-of-requires : tie.Need-slot-of-requires
 slot-of-requires c κs = search needs
@@ -16,7 +16,7 @@ slot-of-requires c κs = search needs
 add-related : tie.Need-add-related
 add-related c =
     let at-start = c .before .before .before .before in
-    omega (arith, facts (at-start .pre) .2)
+    omega (arith, facts (at-start .pre .1) .2)
 
 related-requires : tie.Need-related-requires
 related-requires c κs = search needs
@@ -30,28 +30,28 @@ enum-told-2 c = search needs
 add-skip : tie.Need-add-skip
 add-skip c =
     let at-start = c .before .before .before .before .before .before .before in
-    omega (arith, facts (at-start .pre) .2)
+    omega (arith, facts (at-start .pre .1) .2)
 
 skip-requires : tie.Need-skip-requires
 skip-requires c κs =
     let at-start = c .before .before .before .before .before .before .before in
-    stated-there (at-start .pre)
+    stated-there (at-start .pre .1)
 
 add-copy-in : tie.Need-add-copy-in
 add-copy-in c =
     let at-start = c .before .before .before .before .before .before .before .before in
-    omega (arith, facts (at-start .pre) .2)
+    omega (arith, facts (at-start .pre .1) .2)
 
 add-copy-in-2 : tie.Need-add-copy-in-2
 add-copy-in-2 c =
     let at-start = c .before .before .before .before .before .before .before .before in
-    omega (arith, facts (at-start .pre) .2)
+    omega (arith, facts (at-start .pre .1) .2)
 
 sub-copy-in : tie.Need-sub-copy-in
 sub-copy-in c =
     let at-skip = c in
     let at-start = c .before .before .before .before .before .before .before .before in
-    stated-room (at-start .pre) (at-skip .skip .result) (at-skip .skip .ensures) .0
+    stated-room (at-start .pre .1) (at-skip .skip .result) (at-skip .skip .ensures) .0
 
 slot-of-requires-2 : tie.Need-slot-of-requires-2
 slot-of-requires-2 c κs = search needs
@@ -61,7 +61,7 @@ copy-in-requires c κs =
     let at-slot-of2 = c in
     let at-skip = c .before .before in
     let at-start = c .before .before .before .before .before .before .before .before .before .before in
-    let z = facts (at-start .pre) in let y = stated-room (at-start .pre) (at-skip .skip .result) (at-skip .skip .ensures) in (omega arith, omega (arith, at-slot-of2 .slot-of2 .ensures))
+    let z = facts (at-start .pre .1) in let y = stated-room (at-start .pre .1) (at-skip .skip .result) (at-skip .skip .ensures) in (omega arith, omega (arith, at-slot-of2 .slot-of2 .ensures))
 
 same-length : tie.Need-same-length
 same-length c = search needs
@@ -71,8 +71,7 @@ returns c =
     let at-enum-told = c in
     let at-related = c .before .before in
     let at-slot-of = c .before .before .before in
-    let at-start = c .before .before .before .before .before .before .before in
-    third-stop (at-start .pre) (rw (at-slot-of .slot-of .ensures) at (at-related .related .ensures)) (at-enum-told .enum-told .given .1)
+    λ n O. third-stop O (rw (at-slot-of .slot-of .ensures) at (at-related .related .ensures)) (at-enum-told .enum-told .given .1)
 
 same-length-2 : tie.Need-same-length-2
 same-length-2 c = search needs
@@ -85,8 +84,7 @@ returns-2 c =
     let at-enum-told2 = c .before .before .before .before .before .before in
     let at-related = c .before .before .before .before .before .before .before .before in
     let at-slot-of = c .before .before .before .before .before .before .before .before .before in
-    let at-start = c .before .before .before .before .before .before .before .before .before .before .before .before .before in
-    third-go (at-start .pre) (rw (at-slot-of .slot-of .ensures) at (at-related .related .ensures)) _ _ _ (at-enum-told2 .enum-told2 .given .1) (at-skip .skip .ensures) (rw (at-slot-of2 .slot-of2 .ensures) at (at-copy-in .copy-in .ensures))
+    λ n O. third-go O (rw (at-slot-of .slot-of .ensures) at (at-related .related .ensures)) _ _ _ (at-enum-told2 .enum-told2 .given .1) (at-skip .skip .ensures) (rw (at-slot-of2 .slot-of2 .ensures) at (at-copy-in .copy-in .ensures))
 
 pub after-third-spec : {M : Type 1} → statement M
 after-third-spec =

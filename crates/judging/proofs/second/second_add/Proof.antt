@@ -6,8 +6,8 @@ use Rattle.judging.proofs.second.second_add.Tie as tie
 
 sub-slot-of : tie.Need-sub-slot-of
 sub-slot-of c =
-    let at-start = c .before .before in
-    facts (at-start .pre .0) .0
+    let at-start = c .before in
+    facts (at-start .pre .2 .1) .0
 
 slot-of-requires : tie.Need-slot-of-requires
 slot-of-requires c κs = search needs
@@ -19,8 +19,7 @@ returns : tie.Need-returns
 returns c =
     let at-if1 = c in
     let at-slot-of = c .before .before in
-    let at-start = c .before .before .before .before .before in
-    add-stop (at-start .pre .0) (at-start .pre .1) (rw (at-slot-of .slot-of .ensures) at (at-if1 .if1 .taken))
+    λ img at n O e. add-stop O e (rw (at-slot-of .slot-of .ensures) at (at-if1 .if1 .taken))
 
 slot-of-requires-2 : tie.Need-slot-of-requires-2
 slot-of-requires-2 c κs = search needs
@@ -36,8 +35,7 @@ returns-2 c =
     let at-slot-of2 = c in
     let at-if1 = c .before in
     let at-slot-of = c .before .before .before in
-    let at-start = c .before .before .before .before .before .before in
-    rw (at-slot-of2 .slot-of2 .ensures) (add-go (at-start .pre .0) (at-start .pre .1) (rw (at-slot-of .slot-of .ensures) at (at-if1 .if1 .left)))
+    λ img at n O e. rw (at-slot-of2 .slot-of2 .ensures) (add-go O e (rw (at-slot-of .slot-of .ensures) at (at-if1 .if1 .left)))
 
 pub second-add-spec : {M : Type 1} → statement M
 second-add-spec =

@@ -11,8 +11,8 @@ slot-of-requires c κs = search needs
 
 sub-slot-of : tie.Need-sub-slot-of
 sub-slot-of c =
-    let at-start = c .before .before .before .before in
-    facts (at-start .pre .0) .0
+    let at-start = c .before .before .before in
+    facts (at-start .pre .2 .1) .0
 
 slot-of-requires-2 : tie.Need-slot-of-requires-2
 slot-of-requires-2 c κs = search needs
@@ -35,29 +35,29 @@ add-skip c = search needs
 skip-requires : tie.Need-skip-requires
 skip-requires c κs =
     let at-slot-of = c .before .before .before .before .before .before in
-    let at-start = c .before .before .before .before .before .before .before .before .before in
-    rw (at-slot-of .slot-of .ensures) (arg-there (at-start .pre .0) (at-start .pre .1))
+    let at-start = c .before .before .before .before .before .before .before .before in
+    rw (at-slot-of .slot-of .ensures) (arg-there (at-start .pre .2 .1) (at-start .pre .2 .2))
 
 number-requires : tie.Need-number-requires
 number-requires c κs =
     let at-skip = c .before in
     let at-slot-of = c .before .before .before .before .before .before .before .before in
-    let at-start = c .before .before .before .before .before .before .before .before .before .before .before in
-    set-there (at-start .pre .0) (at-start .pre .1) _ (rw (at-slot-of .slot-of .ensures) at (at-skip .skip .ensures)) .0
+    let at-start = c .before .before .before .before .before .before .before .before .before .before in
+    set-there (at-start .pre .2 .1) (at-start .pre .2 .2) _ (rw (at-slot-of .slot-of .ensures) at (at-skip .skip .ensures)) .0
 
 add-copy : tie.Need-add-copy
 add-copy c =
     let at-skip = c .before .before .before in
     let at-slot-of = c .before .before .before .before .before .before .before .before .before .before in
-    let at-start = c .before .before .before .before .before .before .before .before .before .before .before .before .before in
-    omega (arith, set-there (at-start .pre .0) (at-start .pre .1) (at-skip .skip .result) (rw (at-slot-of .slot-of .ensures) at (at-skip .skip .ensures)))
+    let at-start = c .before .before .before .before .before .before .before .before .before .before .before .before in
+    omega (arith, set-there (at-start .pre .2 .1) (at-start .pre .2 .2) (at-skip .skip .result) (rw (at-slot-of .slot-of .ensures) at (at-skip .skip .ensures)))
 
 copy-requires : tie.Need-copy-requires
 copy-requires c κs =
     let at-skip = c .before .before .before in
     let at-slot-of = c .before .before .before .before .before .before .before .before .before .before in
-    let at-start = c .before .before .before .before .before .before .before .before .before .before .before .before .before in
-    rw (at-slot-of .slot-of .ensures) (result-movable (at-start .pre .0) (at-start .pre .1) _ (rw (at-slot-of .slot-of .ensures) at (at-skip .skip .ensures)))
+    let at-start = c .before .before .before .before .before .before .before .before .before .before .before .before in
+    rw (at-slot-of .slot-of .ensures) (result-movable (at-start .pre .2 .1) (at-start .pre .2 .2) _ (rw (at-slot-of .slot-of .ensures) at (at-skip .skip .ensures)))
 
 same-length : tie.Need-same-length
 same-length c = search needs
@@ -68,8 +68,7 @@ returns c =
     let at-related = c .before .before in
     let at-slot-of2 = c .before .before .before in
     let at-slot-of = c .before .before .before .before .before in
-    let at-start = c .before .before .before .before .before .before .before .before in
-    app-stop (at-start .pre .0) (at-start .pre .1) (rw (at-slot-of .slot-of .ensures, at-slot-of2 .slot-of2 .ensures) at (at-related .related .ensures)) (at-enum-told .enum-told .given .1)
+    λ img at n O e. app-stop O e (rw (at-slot-of .slot-of .ensures, at-slot-of2 .slot-of2 .ensures) at (at-related .related .ensures)) (at-enum-told .enum-told .given .1)
 
 same-length-2 : tie.Need-same-length-2
 same-length-2 c = search needs
@@ -83,8 +82,7 @@ returns-2 c =
     let at-related = c .before .before .before .before .before .before .before .before .before .before in
     let at-slot-of2 = c .before .before .before .before .before .before .before .before .before .before .before in
     let at-slot-of = c .before .before .before .before .before .before .before .before .before .before .before .before .before in
-    let at-start = c .before .before .before .before .before .before .before .before .before .before .before .before .before .before .before .before in
-    rw (at-number .number .ensures) (app-go (at-start .pre .0) (at-start .pre .1) (rw (at-slot-of .slot-of .ensures, at-slot-of2 .slot-of2 .ensures) at (at-related .related .ensures)) _ _ _ (at-enum-told2 .enum-told2 .given .1) (rw (at-slot-of .slot-of .ensures) at (at-skip .skip .ensures)) (rw (at-slot-of .slot-of .ensures) at (at-copy .copy .ensures)))
+    λ img at n O e. rw (at-number .number .ensures) (app-go O e (rw (at-slot-of .slot-of .ensures, at-slot-of2 .slot-of2 .ensures) at (at-related .related .ensures)) _ _ _ (at-enum-told2 .enum-told2 .given .1) (rw (at-slot-of .slot-of .ensures) at (at-skip .skip .ensures)) (rw (at-slot-of .slot-of .ensures) at (at-copy .copy .ensures)))
 
 pub second-app-spec : {M : Type 1} → statement M
 second-app-spec =

@@ -9,7 +9,7 @@ use Rattle.judging.proofs.second.second_cond.Tie as tie
 sub-slot-of : tie.Need-sub-slot-of
 sub-slot-of c =
     let at-start = c .before .before .before in
-    facts (at-start .pre .0) .0
+    facts (at-start .pre .1) .0
 
 slot-of-requires : tie.Need-slot-of-requires
 slot-of-requires c κs = search needs
@@ -17,7 +17,7 @@ slot-of-requires c κs = search needs
 add-related : tie.Need-add-related
 add-related c =
     let at-start = c .before .before .before .before in
-    omega (arith, facts (at-start .pre .0) .2)
+    omega (arith, facts (at-start .pre .1) .2)
 
 related-requires : tie.Need-related-requires
 related-requires c κs = search needs
@@ -42,8 +42,7 @@ returns c =
     let at-enum-told = c in
     let at-related = c .before .before in
     let at-slot-of = c .before .before .before in
-    let at-start = c .before .before .before .before .before .before .before in
-    cond-stop (at-start .pre .0) (rw (at-slot-of .slot-of .ensures) at (at-related .related .ensures)) (at-start .pre .1) (at-enum-told .enum-told .given .1)
+    λ part m need next n O e. cond-stop O (rw (at-slot-of .slot-of .ensures) at (at-related .related .ensures)) e (at-enum-told .enum-told .given .1)
 
 same-length-2 : tie.Need-same-length-2
 same-length-2 c = search needs
@@ -54,8 +53,7 @@ returns-2 c =
     let at-enum-told2 = c .before in
     let at-related = c .before .before .before in
     let at-slot-of = c .before .before .before .before in
-    let at-start = c .before .before .before .before .before .before .before .before in
-    rw (at-slot-of2 .slot-of2 .ensures) (cond-go (at-start .pre .0) (rw (at-slot-of .slot-of .ensures) at (at-related .related .ensures)) (at-start .pre .1) _ (at-enum-told2 .enum-told2 .given .1))
+    λ part m need next n O e. rw (at-slot-of2 .slot-of2 .ensures) (cond-go O (rw (at-slot-of .slot-of .ensures) at (at-related .related .ensures)) e _ (at-enum-told2 .enum-told2 .given .1))
 
 pub second-cond-spec : {M : Type 1} → statement M
 second-cond-spec =

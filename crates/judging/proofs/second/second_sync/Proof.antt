@@ -15,8 +15,8 @@ slice-read-k c = search needs
 
 sub-slot-of : tie.Need-sub-slot-of
 sub-slot-of c =
-    let at-start = c .before .before .before .before .before in
-    facts (at-start .pre .0) .0
+    let at-start = c .before .before .before .before in
+    facts (at-start .pre .2 .1) .0
 
 slot-of-requires-2 : tie.Need-slot-of-requires-2
 slot-of-requires-2 c κs = search needs
@@ -25,14 +25,14 @@ copy-requires : tie.Need-copy-requires
 copy-requires c κs =
     let at-slot-of2 = c in
     let at-slot-of = c .before .before .before in
-    let at-start = c .before .before .before .before .before .before in
-    rw (at-slot-of .slot-of .ensures, at-slot-of2 .slot-of2 .ensures) (part-movable (at-start .pre .0))
+    let at-start = c .before .before .before .before .before in
+    rw (at-slot-of .slot-of .ensures, at-slot-of2 .slot-of2 .ensures) (part-movable (at-start .pre .2 .1))
 
 less-requires : tie.Need-less-requires
 less-requires c κs =
     let at-slot-of = c .before .before .before .before .before .before in
-    let at-start = c .before .before .before .before .before .before .before .before .before in
-    rw (at-slot-of .slot-of .ensures) (sync-name (at-start .pre .0) (at-start .pre .1))
+    let at-start = c .before .before .before .before .before .before .before .before in
+    rw (at-slot-of .slot-of .ensures) (sync-name (at-start .pre .2 .1) (at-start .pre .2 .2))
 
 same-length : tie.Need-same-length
 same-length c = search needs
@@ -43,8 +43,7 @@ returns c =
     let at-copy = c .before .before .before in
     let at-slot-of2 = c .before .before .before .before in
     let at-slot-of = c .before .before .before .before .before .before .before in
-    let at-start = c .before .before .before .before .before .before .before .before .before .before in
-    rw (at-less .less .ensures, at-slot-of .slot-of .ensures) (sync-second (at-start .pre .0) _ (at-start .pre .1) (rw (at-slot-of2 .slot-of2 .ensures, at-slot-of .slot-of .ensures) at (at-copy .copy .ensures)))
+    λ part img at n O e. rw (at-less .less .ensures, at-slot-of .slot-of .ensures) (sync-second O _ e (rw (at-slot-of2 .slot-of2 .ensures, at-slot-of .slot-of .ensures) at (at-copy .copy .ensures)))
 
 pub second-sync-spec : {M : Type 1} → statement M
 second-sync-spec =

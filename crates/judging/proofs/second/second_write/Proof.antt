@@ -10,8 +10,8 @@ slot-of-requires c κs = search needs
 
 sub-slot-of : tie.Need-sub-slot-of
 sub-slot-of c =
-    let at-start = c .before .before .before .before in
-    facts (at-start .pre .0) .0
+    let at-start = c .before .before .before in
+    facts (at-start .pre .2 .1) .0
 
 slot-of-requires-2 : tie.Need-slot-of-requires-2
 slot-of-requires-2 c κs = search needs
@@ -40,8 +40,8 @@ slice-write-work c = search needs
 only-requires : tie.Need-only-requires
 only-requires c κs =
     let at-slot-of = c .before .before .before .before .before .before in
-    let at-start = c .before .before .before .before .before .before .before .before .before in
-    rw (at-slot-of .slot-of .ensures) (write-name (at-start .pre .0) (at-start .pre .1))
+    let at-start = c .before .before .before .before .before .before .before .before in
+    rw (at-slot-of .slot-of .ensures) (write-name (at-start .pre .2 .1) (at-start .pre .2 .2))
 
 same-length : tie.Need-same-length
 same-length c = search needs
@@ -52,8 +52,7 @@ returns c =
     let at-related = c .before .before in
     let at-slot-of2 = c .before .before .before in
     let at-slot-of = c .before .before .before .before .before in
-    let at-start = c .before .before .before .before .before .before .before .before in
-    write-stop (at-start .pre .0) (rw (at-slot-of .slot-of .ensures, at-slot-of2 .slot-of2 .ensures) at (at-related .related .ensures)) (at-start .pre .1) (at-enum-told .enum-told .given .1)
+    λ img at n O e. write-stop O (rw (at-slot-of .slot-of .ensures, at-slot-of2 .slot-of2 .ensures) at (at-related .related .ensures)) e (at-enum-told .enum-told .given .1)
 
 same-length-2 : tie.Need-same-length-2
 same-length-2 c = search needs
@@ -65,8 +64,7 @@ returns-2 c =
     let at-related = c .before .before .before .before in
     let at-slot-of2 = c .before .before .before .before .before in
     let at-slot-of = c .before .before .before .before .before .before .before in
-    let at-start = c .before .before .before .before .before .before .before .before .before .before in
-    rw (at-only .only .ensures, at-slot-of .slot-of .ensures) (write-go (at-start .pre .0) (rw (at-slot-of .slot-of .ensures, at-slot-of2 .slot-of2 .ensures) at (at-related .related .ensures)) (at-start .pre .1) _ (at-enum-told2 .enum-told2 .given .1))
+    λ img at n O e. rw (at-only .only .ensures, at-slot-of .slot-of .ensures) (write-go O (rw (at-slot-of .slot-of .ensures, at-slot-of2 .slot-of2 .ensures) at (at-related .related .ensures)) e _ (at-enum-told2 .enum-told2 .given .1))
 
 pub second-write-spec : {M : Type 1} → statement M
 second-write-spec =

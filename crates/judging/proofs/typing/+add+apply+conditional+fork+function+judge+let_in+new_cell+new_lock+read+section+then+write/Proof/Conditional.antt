@@ -4,12 +4,13 @@ use borrow.Fn.Kinds.{In}
 use mathlib.Core.Path.{refl}
 use native.Mathlib.Nat.{pos-of-ne-zero}
 use native.Mathlib.Omega.{arith}
+use lib.Bits.{bitOr}
 use borrow.Author.Needs.{needs}
 use Rattle.judging.specs.Contract.{due15}
 use Rattle.judging.proofs.binding.Start.{own-read, start-if}
-use Rattle.judging.proofs.typing.One.{less-left, inside, some-left, ready-1, refused-1, some-1, stop-1, after-1}
-use Rattle.judging.proofs.typing.Two.{Due2, ready-2, refused-2, some-2, stop-2, after-2}
-use Rattle.judging.proofs.typing.Three.{Due3, ready-3, refused-3, some-3, stop-3, done-3}
+use Rattle.judging.proofs.typing.One.{less-left, inside, some-left, ready-1, refused-1, some-1, other-1, due-1}
+use Rattle.judging.proofs.typing.Two.{Due2, ready-2, refused-2, some-2, other-2, fits-2}
+use Rattle.judging.proofs.typing.Three.{Due3, ready-3, refused-3, some-3, ends-3}
 use Rattle.judging.proofs.typing.Rule.{behind-type, if-due-2, if-due-3}
 use Rattle.judging.proofs.typing.+add+apply+conditional+fork+function+judge+let_in+new_cell+new_lock+read+section+then+write.Proof.Measures.{judge-below, rule-at}
 use Rattle.judging.proofs.second.after_third.Reads as after-third-reads
@@ -28,32 +29,32 @@ abbrev At : ℕ → In 2 judge-kinds.ps
 At = rule-at conditional.Pre
 
 -- the second part's call is due
-abbrev due-start : (t : ℕ) → conditional-lts.After-m (R t) (At t) conditional.Post → conditional-lts.Start (R t) (At t) conditional.Post
-due-start t c = c .before .before .before .before .before .before .before .before .before .before .before .before .before .before .before .before
+abbrev due-start : (t : ℕ) → conditional-lts.Then1 (R t) (At t) conditional.Post → conditional-lts.Start (R t) (At t) conditional.Post
+due-start t c = c .before .before .before .before .before .before .before .before .before .before .before .before .before .before .before
 
-due : (t : ℕ) (c : conditional-lts.After-m (R t) (At t) conditional.Post) → Due2 (due-start t c .args .img .now) (due-start t c .args .work .now) (c .before .before .before .before .first-int .last .1 .1 .1 .0) (due-start t c .args .at) (due-start t c .args .vars) (due-start t c .args .locks) (due-start t c .args .left) (c .before .before .before .before .before .before .before .p2 .given .0 .0) (c .m .given .0 .0)
+due : (t : ℕ) (c : conditional-lts.Then1 (R t) (At t) conditional.Post) → Due2 (due-start t c .args .img .now) (due-start t c .args .work .now) (c .before .before .before .first-int .last .0) (due-start t c .args .at) (due-start t c .args .vars) (due-start t c .args .locks) (due-start t c .args .left) (c .before .before .before .before .before .before .p2 .given .0 .0) (c .before .before .before .before .before .before .p2 .given .0 .1 .0)
 due t c =
-    let at-m = c in
-    let at-first-int = c .before .before .before .before in
-    let at-p2 = c .before .before .before .before .before .before .before in
-    let at-judge = c .before .before .before .before .before .before .before .before .before .before .before in
-    let at-skip = c .before .before .before .before .before .before .before .before .before .before .before .before .before in
-    let at-start = c .before .before .before .before .before .before .before .before .before .before .before .before .before .before .before .before in
-    if-due-2 (at-start .pre .1 .1) (after-1 (behind-type (at-start .pre .1 .0) (at-start .pre .1 .1) (at-skip .skip .ensures)) (at-judge .judge .ensures) (at-p2 .p2 .given .1) (at-first-int .first-int .ensures) (at-m .m .given .1))
+    let at-if1 = c in
+    let at-first-int = c .before .before .before in
+    let at-p2 = c .before .before .before .before .before .before in
+    let at-judge = c .before .before .before .before .before .before .before .before .before .before in
+    let at-skip = c .before .before .before .before .before .before .before .before .before .before .before .before in
+    let at-start = c .before .before .before .before .before .before .before .before .before .before .before .before .before .before .before in
+    if-due-2 (at-start .pre .1 .1) (due-1 (behind-type (at-start .pre .1 .0) (at-start .pre .1 .1) (at-skip .skip .ensures)) (at-judge .judge .ensures) (at-p2 .p2 .given .1) (at-first-int .first-int .ensures) (due15 (at-start .pre .1 .1) refl) (at-if1 .if1 .taken))
 
 -- the third part's call is due
-abbrev due-third-start : (t : ℕ) → conditional-lts.After-both (R t) (At t) conditional.Post → conditional-lts.Start (R t) (At t) conditional.Post
-due-third-start t c = c .before .before .before .before .before .before .before .before .before .before .before .before .before .before .before .before .before .before .before .before .before .before .before .before .before .before .before .before .before .before
+abbrev due-third-start : (t : ℕ) → conditional-lts.Then2 (R t) (At t) conditional.Post → conditional-lts.Start (R t) (At t) conditional.Post
+due-third-start t c = c .before .before .before .before .before .before .before .before .before .before .before .before .before .before .before .before .before .before .before .before .before .before .before .before .before .before .before
 
-due-third : (t : ℕ) (c : conditional-lts.After-both (R t) (At t) conditional.Post) → Due3 (due-third-start t c .args .img .now) (due-third-start t c .args .work .now) (c .before .before .before .before .second-cond .last .1 .1 .1 .0) (due-third-start t c .args .at) (due-third-start t c .args .vars) (due-third-start t c .args .locks) (due-third-start t c .args .left) (c .before .before .before .before .before .before .before .p3 .given .0 .0) (c .both .given .0 .0)
+due-third : (t : ℕ) (c : conditional-lts.Then2 (R t) (At t) conditional.Post) → Due3 (due-third-start t c .args .img .now) (due-third-start t c .args .work .now) (c .before .before .before .second-cond .last .1 .1 .0) (due-third-start t c .args .at) (due-third-start t c .args .vars) (due-third-start t c .args .locks) (due-third-start t c .args .left) (c .before .before .before .before .before .before .p3 .given .0 .0) (bitOr (c .before .before .before .before .before .before .before .before .before .before .before .before .before .before .before .before .before .before .p2 .given .0 .1 .0) (c .before .before .before .before .before .before .p3 .given .0 .1 .0))
 due-third t c =
-    let at-both = c in
-    let at-second-cond = c .before .before .before .before in
-    let at-p3 = c .before .before .before .before .before .before .before in
-    let at-judge2 = c .before .before .before .before .before .before .before .before .before .before .before in
-    let at-m = c .before .before .before .before .before .before .before .before .before .before .before .before .before .before in
-    let at-start = c .before .before .before .before .before .before .before .before .before .before .before .before .before .before .before .before .before .before .before .before .before .before .before .before .before .before .before .before .before .before in
-    if-due-3 (at-start .pre .1 .1) (after-2 (due t at-m) (at-judge2 .judge2 .ensures) (at-p3 .p3 .given .1) (at-second-cond .second-cond .ensures) (at-both .both .given .1))
+    let at-if2 = c in
+    let at-second-cond = c .before .before .before in
+    let at-p3 = c .before .before .before .before .before .before in
+    let at-judge2 = c .before .before .before .before .before .before .before .before .before .before in
+    let at-if1 = c .before .before .before .before .before .before .before .before .before .before .before .before in
+    let at-start = c .before .before .before .before .before .before .before .before .before .before .before .before .before .before .before .before .before .before .before .before .before .before .before .before .before .before .before in
+    if-due-3 (at-start .pre .1 .1) (fits-2 (due t at-if1) (at-judge2 .judge2 .ensures) (at-p3 .p3 .given .1) (at-second-cond .second-cond .ensures) (at-start .pre .1 .1) (at-if2 .if2 .taken))
 
 add-skip : (t : ℕ) → conditional-lts.Need-add-skip (R t) (At t) conditional.Post
 add-skip t c =
@@ -82,44 +83,44 @@ first-int-requires t c κs =
     let at-judge = c .before .before .before .before .before .before in
     let at-skip = c .before .before .before .before .before .before .before .before in
     let at-start = c .before .before .before .before .before .before .before .before .before .before .before in
-    (some-1 (behind-type (at-start .pre .1 .0) (at-start .pre .1 .1) (at-skip .skip .ensures)) (at-judge .judge .ensures) (at-p2 .p2 .given .1), due15 (at-start .pre .1 .1) refl)
+    (_, _, (_, some-1 (behind-type (at-start .pre .1 .0) (at-start .pre .1 .1) (at-skip .skip .ensures)) (at-judge .judge .ensures) (at-p2 .p2 .given .1), due15 (at-start .pre .1 .1) refl))
 
 sub-judge-2 : (t : ℕ) → conditional-lts.Need-sub-judge-2 (R t) (At t) conditional.Post
 sub-judge-2 t c =
-    let at-start = c .before .before .before .before .before .before .before .before .before .before .before .before .before .before .before .before .before .before in
+    let at-start = c .before .before .before .before .before .before .before .before .before .before .before .before .before .before .before .before in
     pos-of-ne-zero (some-left (at-start .pre .1 .0))
 
 judge-requires-2 : (t : ℕ) → conditional-lts.Need-judge-requires-2 (R t) (At t) conditional.Post
 judge-requires-2 t c κs =
-    let at-m = c .before .before in
-    let at-start = c .before .before .before .before .before .before .before .before .before .before .before .before .before .before .before .before .before .before in
-    (less-left _ _ (at-start .pre .0) (some-left (at-start .pre .1 .0)), ready-2 (due t at-m))
+    let at-if1 = c .before in
+    let at-start = c .before .before .before .before .before .before .before .before .before .before .before .before .before .before .before .before in
+    (less-left _ _ (at-start .pre .0) (some-left (at-start .pre .1 .0)), ready-2 (due t at-if1))
 
 second-cond-requires : (t : ℕ) → conditional-lts.Need-second-cond-requires (R t) (At t) conditional.Post
 second-cond-requires t c κs =
     let at-p3 = c .before .before in
     let at-judge2 = c .before .before .before .before .before .before in
-    let at-m = c .before .before .before .before .before .before .before .before .before in
-    let at-start = c .before .before .before .before .before .before .before .before .before .before .before .before .before .before .before .before .before .before .before .before .before .before .before .before .before in
-    (some-2 (due t at-m) (at-judge2 .judge2 .ensures) (at-p3 .p3 .given .1), at-start .pre .1 .1)
+    let at-if1 = c .before .before .before .before .before .before .before .before in
+    let at-start = c .before .before .before .before .before .before .before .before .before .before .before .before .before .before .before .before .before .before .before .before .before .before .before in
+    (_, some-2 (due t at-if1) (at-judge2 .judge2 .ensures) (at-p3 .p3 .given .1), at-start .pre .1 .1)
 
 sub-judge-3 : (t : ℕ) → conditional-lts.Need-sub-judge-3 (R t) (At t) conditional.Post
 sub-judge-3 t c =
-    let at-start = c .before .before .before .before .before .before .before .before .before .before .before .before .before .before .before .before .before .before .before .before .before .before .before .before .before .before .before .before .before .before .before .before in
+    let at-start = c .before .before .before .before .before .before .before .before .before .before .before .before .before .before .before .before .before .before .before .before .before .before .before .before .before .before .before .before in
     pos-of-ne-zero (some-left (at-start .pre .1 .0))
 
 judge-requires-3 : (t : ℕ) → conditional-lts.Need-judge-requires-3 (R t) (At t) conditional.Post
 judge-requires-3 t c κs =
-    let at-both = c .before .before in
-    let at-start = c .before .before .before .before .before .before .before .before .before .before .before .before .before .before .before .before .before .before .before .before .before .before .before .before .before .before .before .before .before .before .before .before in
-    (less-left _ _ (at-start .pre .0) (some-left (at-start .pre .1 .0)), ready-3 (due-third t at-both))
+    let at-if2 = c .before in
+    let at-start = c .before .before .before .before .before .before .before .before .before .before .before .before .before .before .before .before .before .before .before .before .before .before .before .before .before .before .before .before in
+    (less-left _ _ (at-start .pre .0) (some-left (at-start .pre .1 .0)), ready-3 (due-third t at-if2))
 
 after-third-requires : (t : ℕ) → conditional-lts.Need-after-third-requires (R t) (At t) conditional.Post
 after-third-requires t c κs =
     let at-p4 = c .before .before in
     let at-judge3 = c .before .before .before .before .before .before in
-    let at-both = c .before .before .before .before .before .before .before .before .before in
-    some-3 (due-third t at-both) (at-judge3 .judge3 .ensures) (at-p4 .p4 .given .1)
+    let at-if2 = c .before .before .before .before .before .before .before .before in
+    (_, some-3 (due-third t at-if2) (at-judge3 .judge3 .ensures) (at-p4 .p4 .given .1))
 
 returns : (t : ℕ) → conditional-lts.Need-returns (R t) (At t) conditional.Post
 returns t c =
@@ -132,53 +133,44 @@ returns t c =
 returns-2 : (t : ℕ) → conditional-lts.Need-returns-2 (R t) (At t) conditional.Post
 returns-2 t c =
     let at-k2 = c .before in
-    let at-first-int = c .before .before .before .before .before in
-    let at-p2 = c .before .before .before .before .before .before .before .before in
-    let at-judge = c .before .before .before .before .before .before .before .before .before .before .before .before in
-    let at-skip = c .before .before .before .before .before .before .before .before .before .before .before .before .before .before in
-    let at-start = c .before .before .before .before .before .before .before .before .before .before .before .before .before .before .before .before .before in
-    stop-1 (behind-type (at-start .pre .1 .0) (at-start .pre .1 .1) (at-skip .skip .ensures)) (at-judge .judge .ensures) (at-p2 .p2 .given .1) (at-first-int .first-int .ensures) (at-k2 .k2 .given .1)
+    let at-judge2 = c .before .before .before .before .before in
+    let at-if1 = c .before .before .before .before .before .before .before in
+    refused-2 (due t at-if1) (at-judge2 .judge2 .ensures) (at-k2 .k2 .given .1)
 
 returns-3 : (t : ℕ) → conditional-lts.Need-returns-3 (R t) (At t) conditional.Post
 returns-3 t c =
     let at-k3 = c .before in
-    let at-judge2 = c .before .before .before .before .before in
-    let at-m = c .before .before .before .before .before .before .before .before in
-    refused-2 (due t at-m) (at-judge2 .judge2 .ensures) (at-k3 .k3 .given .1)
+    let at-judge3 = c .before .before .before .before .before in
+    let at-if2 = c .before .before .before .before .before .before .before in
+    refused-3 (due-third t at-if2) (at-judge3 .judge3 .ensures) (at-k3 .k3 .given .1)
 
 returns-4 : (t : ℕ) → conditional-lts.Need-returns-4 (R t) (At t) conditional.Post
 returns-4 t c =
-    let at-k4 = c .before in
-    let at-second-cond = c .before .before .before .before .before in
-    let at-p3 = c .before .before .before .before .before .before .before .before in
-    let at-judge2 = c .before .before .before .before .before .before .before .before .before .before .before .before in
-    let at-m = c .before .before .before .before .before .before .before .before .before .before .before .before .before .before .before in
-    stop-2 (due t at-m) (at-judge2 .judge2 .ensures) (at-p3 .p3 .given .1) (at-second-cond .second-cond .ensures) (at-k4 .k4 .given .1)
+    let at-after-third = c .before .before in
+    let at-p4 = c .before .before .before .before .before in
+    let at-judge3 = c .before .before .before .before .before .before .before .before .before in
+    let at-if2 = c .before .before .before .before .before .before .before .before .before .before .before in
+    ends-3 (due-third t at-if2) (at-judge3 .judge3 .ensures) (at-p4 .p4 .given .1) (at-after-third .after-third .ensures)
 
 returns-5 : (t : ℕ) → conditional-lts.Need-returns-5 (R t) (At t) conditional.Post
 returns-5 t c =
-    let at-k5 = c .before in
-    let at-judge3 = c .before .before .before .before .before in
-    let at-both = c .before .before .before .before .before .before .before .before in
-    refused-3 (due-third t at-both) (at-judge3 .judge3 .ensures) (at-k5 .k5 .given .1)
+    let at-if2 = c in
+    let at-second-cond = c .before .before .before in
+    let at-p3 = c .before .before .before .before .before .before in
+    let at-judge2 = c .before .before .before .before .before .before .before .before .before .before in
+    let at-if1 = c .before .before .before .before .before .before .before .before .before .before .before .before in
+    let at-start = c .before .before .before .before .before .before .before .before .before .before .before .before .before .before .before .before .before .before .before .before .before .before .before .before .before .before .before in
+    other-2 (due t at-if1) (at-judge2 .judge2 .ensures) (at-p3 .p3 .given .1) (at-second-cond .second-cond .ensures) (at-start .pre .1 .1) (at-if2 .if2 .left)
 
 returns-6 : (t : ℕ) → conditional-lts.Need-returns-6 (R t) (At t) conditional.Post
 returns-6 t c =
-    let at-k6 = c .before in
-    let at-after-third = c .before .before .before .before .before in
-    let at-p4 = c .before .before .before .before .before .before .before .before in
-    let at-judge3 = c .before .before .before .before .before .before .before .before .before .before .before .before in
-    let at-both = c .before .before .before .before .before .before .before .before .before .before .before .before .before .before .before in
-    stop-3 (due-third t at-both) (at-judge3 .judge3 .ensures) (at-p4 .p4 .given .1) (at-after-third .after-third .ensures) (at-k6 .k6 .given .1)
-
-returns-7 : (t : ℕ) → conditional-lts.Need-returns-7 (R t) (At t) conditional.Post
-returns-7 t c =
-    let at-all = c .before in
-    let at-after-third = c .before .before .before .before .before in
-    let at-p4 = c .before .before .before .before .before .before .before .before in
-    let at-judge3 = c .before .before .before .before .before .before .before .before .before .before .before .before in
-    let at-both = c .before .before .before .before .before .before .before .before .before .before .before .before .before .before .before in
-    done-3 (due-third t at-both) (at-judge3 .judge3 .ensures) (at-p4 .p4 .given .1) (at-after-third .after-third .ensures) (at-all .all .given .1)
+    let at-if1 = c in
+    let at-first-int = c .before .before .before in
+    let at-p2 = c .before .before .before .before .before .before in
+    let at-judge = c .before .before .before .before .before .before .before .before .before .before in
+    let at-skip = c .before .before .before .before .before .before .before .before .before .before .before .before in
+    let at-start = c .before .before .before .before .before .before .before .before .before .before .before .before .before .before .before in
+    other-1 (behind-type (at-start .pre .1 .0) (at-start .pre .1 .1) (at-skip .skip .ensures)) (at-judge .judge .ensures) (at-p2 .p2 .given .1) (at-first-int .first-int .ensures) (due15 (at-start .pre .1 .1) refl) (at-if1 .if1 .left)
 
 pub conditional-met : {M : Type 1} (t : ℕ) → conditional-lts.Closed (R t) (At t) conditional.Post M
 conditional-met t =
@@ -190,25 +182,19 @@ conditional-met t =
     (λ c. search needs)
     (λ c. search needs)
     (first-int-requires t)
-    (λ c. search needs)
-    (λ c. search needs)
     (sub-judge-2 t)
     (judge-requires-2 t)
     (λ c. search needs)
     (λ c. search needs)
     (second-cond-requires t)
-    (λ c. search needs)
-    (λ c. search needs)
     (sub-judge-3 t)
     (judge-requires-3 t)
     (λ c. search needs)
     (λ c. search needs)
     (after-third-requires t)
     (λ c. search needs)
-    (λ c. search needs)
-    (λ c. search needs)
     (returns t)
-    (λ c. search needs)
+    (λ c. returns-2 t c .frame .long)
     (returns-2 t)
     (λ c. returns-3 t c .frame .long)
     (returns-3 t)
@@ -216,7 +202,5 @@ conditional-met t =
     (returns-4 t)
     (λ c. returns-5 t c .frame .long)
     (returns-5 t)
-    (λ c. returns-6 t c .frame .long)
+    (λ c. search needs)
     (returns-6 t)
-    (λ c. returns-7 t c .frame .long)
-    (returns-7 t)

@@ -8,7 +8,7 @@ use borrow.Author.Needs.{needs}
 use Rattle.reading.specs.Walk.{parts}
 use Rattle.judging.proofs.copies.Laws.{end-here}
 use Rattle.judging.proofs.binding.Start.{own-read, start-cell}
-use Rattle.judging.proofs.typing.One.{less-left, some-left, ready-1, refused-1, some-1, stop-1, after-1, done-1}
+use Rattle.judging.proofs.typing.One.{less-left, some-left, ready-1, refused-1, some-1, ends-1}
 use Rattle.judging.proofs.typing.Rule.{behind-name, one-part}
 use Rattle.judging.proofs.typing.+add+apply+conditional+fork+function+judge+let_in+new_cell+new_lock+read+section+then+write.Proof.Measures.{judge-below, rule-at}
 use Rattle.judging.proofs.first.first_cell.Reads as first-cell-reads
@@ -51,7 +51,7 @@ first-cell-requires t c κs =
     let at-judge = c .before .before .before .before .before .before in
     let at-skip = c .before .before .before .before .before .before .before .before in
     let at-start = c .before .before .before .before .before .before .before .before .before .before .before in
-    (some-1 (behind-name (at-start .pre .1 .0) (at-start .pre .1 .1) (at-skip .skip .ensures)) (at-judge .judge .ensures) (at-p2 .p2 .given .1), at-start .pre .1 .1)
+    (_, some-1 (behind-name (at-start .pre .1 .0) (at-start .pre .1 .1) (at-skip .skip .ensures)) (at-judge .judge .ensures) (at-p2 .p2 .given .1), at-start .pre .1 .1)
 
 returns : (t : ℕ) → new-cell-lts.Need-returns (R t) (At t) new-cell.Post
 returns t c =
@@ -62,25 +62,14 @@ returns t c =
     refused-1 (behind-name (at-start .pre .1 .0) (at-start .pre .1 .1) (at-skip .skip .ensures)) (at-judge .judge .ensures) (at-k .k .given .1)
 
 returns-2 : (t : ℕ) → new-cell-lts.Need-returns-2 (R t) (At t) new-cell.Post
-returns-2 t c =
-    let at-k2 = c .before in
-    let at-first-cell = c .before .before .before .before .before in
-    let at-p2 = c .before .before .before .before .before .before .before .before in
-    let at-judge = c .before .before .before .before .before .before .before .before .before .before .before .before in
-    let at-skip = c .before .before .before .before .before .before .before .before .before .before .before .before .before .before in
-    let at-start = c .before .before .before .before .before .before .before .before .before .before .before .before .before .before .before .before .before in
-    stop-1 (behind-name (at-start .pre .1 .0) (at-start .pre .1 .1) (at-skip .skip .ensures)) (at-judge .judge .ensures) (at-p2 .p2 .given .1) (at-first-cell .first-cell .ensures) (at-k2 .k2 .given .1)
-
-returns-3 : (t : ℕ) → new-cell-lts.Need-returns-3 (R t) (At t) new-cell.Post
 unfolding parts
-returns-3 t c =
-    let at-kept = c .before in
-    let at-first-cell = c .before .before .before .before .before in
-    let at-p2 = c .before .before .before .before .before .before .before .before in
-    let at-judge = c .before .before .before .before .before .before .before .before .before .before .before .before in
-    let at-skip = c .before .before .before .before .before .before .before .before .before .before .before .before .before .before in
-    let at-start = c .before .before .before .before .before .before .before .before .before .before .before .before .before .before .before .before .before in
-    done-1 (after-1 (behind-name (at-start .pre .1 .0) (at-start .pre .1 .1) (at-skip .skip .ensures)) (at-judge .judge .ensures) (at-p2 .p2 .given .1) (at-first-cell .first-cell .ensures) (at-kept .kept .given .1)) (one-part (at-start .pre .1 .1) refl)
+returns-2 t c =
+    let at-first-cell = c .before .before in
+    let at-p2 = c .before .before .before .before .before in
+    let at-judge = c .before .before .before .before .before .before .before .before .before in
+    let at-skip = c .before .before .before .before .before .before .before .before .before .before .before in
+    let at-start = c .before .before .before .before .before .before .before .before .before .before .before .before .before .before in
+    ends-1 (behind-name (at-start .pre .1 .0) (at-start .pre .1 .1) (at-skip .skip .ensures)) (at-judge .judge .ensures) (at-p2 .p2 .given .1) (at-first-cell .first-cell .ensures) (at-start .pre .1 .1) (one-part (at-start .pre .1 .1) refl)
 
 pub new-cell-met : {M : Type 1} (t : ℕ) → new-cell-lts.Closed (R t) (At t) new-cell.Post M
 new-cell-met t =
@@ -93,10 +82,6 @@ new-cell-met t =
     (λ c. search needs)
     (first-cell-requires t)
     (λ c. search needs)
-    (λ c. search needs)
-    (λ c. search needs)
     (returns t)
     (λ c. search needs)
     (returns-2 t)
-    (λ c. search needs)
-    (returns-3 t)

@@ -6,7 +6,7 @@ use native.Mathlib.Nat.{pos-of-ne-zero}
 use native.Mathlib.Omega.{arith}
 use borrow.Author.Needs.{needs}
 use Rattle.reading.specs.Walk.{parts}
-use Rattle.judging.proofs.typing.One.{less-left, inside, some-left, ready-1, refused-1, some-1, stop-1, after-1, done-1}
+use Rattle.judging.proofs.typing.One.{less-left, inside, some-left, ready-1, refused-1, some-1, ends-1}
 use Rattle.judging.proofs.typing.Rule.{under-lock, one-part}
 use Rattle.judging.proofs.typing.+add+apply+conditional+fork+function+judge+let_in+new_cell+new_lock+read+section+then+write.Proof.Measures.{judge-below, rule-at}
 use Rattle.judging.proofs.first.first_lock.Reads as first-lock-reads
@@ -59,7 +59,7 @@ first-lock-requires t c κs =
     let at-judge = c .before .before .before .before .before .before in
     let at-new-name = c .before .before .before .before .before .before .before .before .before .before in
     let at-start = c .before .before .before .before .before .before .before .before .before .before .before .before .before .before in
-    (some-1 (under-lock (at-start .pre .1 .0) (at-start .pre .1 .1) (at-new-name .new-name .ensures)) (at-judge .judge .ensures) (at-p2 .p2 .given .1), at-start .pre .1 .1)
+    (_, _, (_, some-1 (under-lock (at-start .pre .1 .0) (at-start .pre .1 .1) (at-new-name .new-name .ensures)) (at-judge .judge .ensures) (at-p2 .p2 .given .1), at-start .pre .1 .1))
 
 returns : (t : ℕ) → new-lock-lts.Need-returns (R t) (At t) new-lock.Post
 returns t c =
@@ -70,25 +70,14 @@ returns t c =
     refused-1 (under-lock (at-start .pre .1 .0) (at-start .pre .1 .1) (at-new-name .new-name .ensures)) (at-judge .judge .ensures) (at-k .k .given .1)
 
 returns-2 : (t : ℕ) → new-lock-lts.Need-returns-2 (R t) (At t) new-lock.Post
-returns-2 t c =
-    let at-k2 = c .before in
-    let at-first-lock = c .before .before .before .before .before in
-    let at-p2 = c .before .before .before .before .before .before .before .before in
-    let at-judge = c .before .before .before .before .before .before .before .before .before .before .before .before in
-    let at-new-name = c .before .before .before .before .before .before .before .before .before .before .before .before .before .before .before .before in
-    let at-start = c .before .before .before .before .before .before .before .before .before .before .before .before .before .before .before .before .before .before .before .before in
-    stop-1 (under-lock (at-start .pre .1 .0) (at-start .pre .1 .1) (at-new-name .new-name .ensures)) (at-judge .judge .ensures) (at-p2 .p2 .given .1) (at-first-lock .first-lock .ensures) (at-k2 .k2 .given .1)
-
-returns-3 : (t : ℕ) → new-lock-lts.Need-returns-3 (R t) (At t) new-lock.Post
 unfolding parts
-returns-3 t c =
-    let at-kept = c .before in
-    let at-first-lock = c .before .before .before .before .before in
-    let at-p2 = c .before .before .before .before .before .before .before .before in
-    let at-judge = c .before .before .before .before .before .before .before .before .before .before .before .before in
-    let at-new-name = c .before .before .before .before .before .before .before .before .before .before .before .before .before .before .before .before in
-    let at-start = c .before .before .before .before .before .before .before .before .before .before .before .before .before .before .before .before .before .before .before .before in
-    done-1 (after-1 (under-lock (at-start .pre .1 .0) (at-start .pre .1 .1) (at-new-name .new-name .ensures)) (at-judge .judge .ensures) (at-p2 .p2 .given .1) (at-first-lock .first-lock .ensures) (at-kept .kept .given .1)) (one-part (at-start .pre .1 .1) refl)
+returns-2 t c =
+    let at-first-lock = c .before .before in
+    let at-p2 = c .before .before .before .before .before in
+    let at-judge = c .before .before .before .before .before .before .before .before .before in
+    let at-new-name = c .before .before .before .before .before .before .before .before .before .before .before .before .before in
+    let at-start = c .before .before .before .before .before .before .before .before .before .before .before .before .before .before .before .before .before in
+    ends-1 (under-lock (at-start .pre .1 .0) (at-start .pre .1 .1) (at-new-name .new-name .ensures)) (at-judge .judge .ensures) (at-p2 .p2 .given .1) (at-first-lock .first-lock .ensures _ _) (at-start .pre .1 .1) (one-part (at-start .pre .1 .1) refl)
 
 pub new-lock-met : {M : Type 1} (t : ℕ) → new-lock-lts.Closed (R t) (At t) new-lock.Post M
 new-lock-met t =
@@ -103,10 +92,6 @@ new-lock-met t =
     (λ c. search needs)
     (first-lock-requires t)
     (λ c. search needs)
-    (λ c. search needs)
-    (λ c. search needs)
     (returns t)
     (λ c. search needs)
     (returns-2 t)
-    (λ c. search needs)
-    (returns-3 t)

@@ -4,7 +4,7 @@ use borrow.Fn.Kinds.{In}
 use native.Mathlib.Nat.{pos-of-ne-zero}
 use native.Mathlib.Omega.{arith}
 use borrow.Author.Needs.{needs}
-use Rattle.judging.proofs.typing.One.{less-left, inside, some-left, ready-1, refused-1, some-1, stop-1, after-1, done-1}
+use Rattle.judging.proofs.typing.One.{less-left, inside, some-left, ready-1, refused-1, some-1, ends-1}
 use Rattle.judging.proofs.typing.Rule.{is-read, parts-are, beside}
 use Rattle.judging.proofs.typing.+add+apply+conditional+fork+function+judge+let_in+new_cell+new_lock+read+section+then+write.Proof.Measures.{judge-below, rule-at}
 use Rattle.judging.proofs.first.first_read.Reads as first-read-reads
@@ -39,7 +39,7 @@ first-read-requires t c κs =
     let at-p2 = c .before .before in
     let at-judge = c .before .before .before .before .before .before in
     let at-start = c .before .before .before .before .before .before .before .before .before .before in
-    (some-1 (beside (at-start .pre .1 .0) is-read (at-start .pre .1 .1)) (at-judge .judge .ensures) (at-p2 .p2 .given .1), at-start .pre .1 .1)
+    (_, _, (_, some-1 (beside (at-start .pre .1 .0) is-read (at-start .pre .1 .1)) (at-judge .judge .ensures) (at-p2 .p2 .given .1), at-start .pre .1 .1))
 
 returns : (t : ℕ) → read-lts.Need-returns (R t) (At t) read.Post
 returns t c =
@@ -50,21 +50,11 @@ returns t c =
 
 returns-2 : (t : ℕ) → read-lts.Need-returns-2 (R t) (At t) read.Post
 returns-2 t c =
-    let at-k2 = c .before in
-    let at-first-read = c .before .before .before .before .before in
-    let at-p2 = c .before .before .before .before .before .before .before .before in
-    let at-judge = c .before .before .before .before .before .before .before .before .before .before .before .before in
-    let at-start = c .before .before .before .before .before .before .before .before .before .before .before .before .before .before .before .before in
-    stop-1 (beside (at-start .pre .1 .0) is-read (at-start .pre .1 .1)) (at-judge .judge .ensures) (at-p2 .p2 .given .1) (at-first-read .first-read .ensures) (at-k2 .k2 .given .1)
-
-returns-3 : (t : ℕ) → read-lts.Need-returns-3 (R t) (At t) read.Post
-returns-3 t c =
-    let at-kept = c .before in
-    let at-first-read = c .before .before .before .before .before in
-    let at-p2 = c .before .before .before .before .before .before .before .before in
-    let at-judge = c .before .before .before .before .before .before .before .before .before .before .before .before in
-    let at-start = c .before .before .before .before .before .before .before .before .before .before .before .before .before .before .before .before in
-    done-1 (after-1 (beside (at-start .pre .1 .0) is-read (at-start .pre .1 .1)) (at-judge .judge .ensures) (at-p2 .p2 .given .1) (at-first-read .first-read .ensures) (at-kept .kept .given .1)) (parts-are is-read (at-start .pre .1 .1))
+    let at-first-read = c .before .before in
+    let at-p2 = c .before .before .before .before .before in
+    let at-judge = c .before .before .before .before .before .before .before .before .before in
+    let at-start = c .before .before .before .before .before .before .before .before .before .before .before .before .before in
+    ends-1 (beside (at-start .pre .1 .0) is-read (at-start .pre .1 .1)) (at-judge .judge .ensures) (at-p2 .p2 .given .1) (at-first-read .first-read .ensures _ _) (at-start .pre .1 .1) (parts-are is-read (at-start .pre .1 .1))
 
 pub read-met : {M : Type 1} (t : ℕ) → read-lts.Closed (R t) (At t) read.Post M
 read-met t =
@@ -76,10 +66,6 @@ read-met t =
     (λ c. search needs)
     (first-read-requires t)
     (λ c. search needs)
-    (λ c. search needs)
-    (λ c. search needs)
     (returns t)
     (λ c. search needs)
     (returns-2 t)
-    (λ c. search needs)
-    (returns-3 t)

@@ -6,8 +6,8 @@ use native.Mathlib.Nat.{pos-of-ne-zero}
 use native.Mathlib.Omega.{arith}
 use borrow.Author.Needs.{needs}
 use Rattle.judging.specs.Contract.{due11}
-use Rattle.judging.proofs.typing.One.{less-left, inside, some-left, ready-1, refused-1, some-1, stop-1, after-1}
-use Rattle.judging.proofs.typing.Two.{Due2, ready-2, refused-2, some-2, stop-2, after-2, done-2}
+use Rattle.judging.proofs.typing.One.{less-left, inside, some-left, ready-1, refused-1, some-1, other-1, due-1}
+use Rattle.judging.proofs.typing.Two.{Due2, ready-2, refused-2, some-2, ends-2}
 use Rattle.judging.proofs.typing.Rule.{is-section, parts-are, beside, due-2}
 use Rattle.judging.proofs.typing.+add+apply+conditional+fork+function+judge+let_in+new_cell+new_lock+read+section+then+write.Proof.Measures.{judge-below, rule-at}
 use Rattle.judging.proofs.first.first_due.Reads as first-due-reads
@@ -24,17 +24,17 @@ abbrev At : ℕ → In 2 judge-kinds.ps
 At = rule-at section.Pre
 
 -- the second part's call is due
-abbrev due-start : (t : ℕ) → section-lts.After-m (R t) (At t) section.Post → section-lts.Start (R t) (At t) section.Post
-due-start t c = c .before .before .before .before .before .before .before .before .before .before .before .before .before .before .before
+abbrev due-start : (t : ℕ) → section-lts.Then1 (R t) (At t) section.Post → section-lts.Start (R t) (At t) section.Post
+due-start t c = c .before .before .before .before .before .before .before .before .before .before .before .before .before .before
 
-due : (t : ℕ) (c : section-lts.After-m (R t) (At t) section.Post) → Due2 (due-start t c .args .img .now) (due-start t c .args .work .now) (c .before .before .before .before .first-due .last .1 .1 .1 .0) (due-start t c .args .at) (due-start t c .args .vars) (due-start t c .args .locks) (due-start t c .args .left) (c .before .before .before .before .before .before .before .p2 .given .0 .0) (c .m .given .0 .0)
+due : (t : ℕ) (c : section-lts.Then1 (R t) (At t) section.Post) → Due2 (due-start t c .args .img .now) (due-start t c .args .work .now) (c .before .before .before .first-due .last .0) (due-start t c .args .at) (due-start t c .args .vars) (due-start t c .args .locks) (due-start t c .args .left) (c .before .before .before .before .before .before .p2 .given .0 .0) (c .before .before .before .before .before .before .p2 .given .0 .1 .0)
 due t c =
-    let at-m = c in
-    let at-first-due = c .before .before .before .before in
-    let at-p2 = c .before .before .before .before .before .before .before in
-    let at-judge = c .before .before .before .before .before .before .before .before .before .before .before in
-    let at-start = c .before .before .before .before .before .before .before .before .before .before .before .before .before .before .before in
-    due-2 is-section (at-start .pre .1 .1) (after-1 (beside (at-start .pre .1 .0) is-section (at-start .pre .1 .1)) (at-judge .judge .ensures) (at-p2 .p2 .given .1) (at-first-due .first-due .ensures) (at-m .m .given .1))
+    let at-if1 = c in
+    let at-first-due = c .before .before .before in
+    let at-p2 = c .before .before .before .before .before .before in
+    let at-judge = c .before .before .before .before .before .before .before .before .before .before in
+    let at-start = c .before .before .before .before .before .before .before .before .before .before .before .before .before .before in
+    due-2 is-section (at-start .pre .1 .1) (due-1 (beside (at-start .pre .1 .0) is-section (at-start .pre .1 .1)) (at-judge .judge .ensures) (at-p2 .p2 .given .1) (at-first-due .first-due .ensures) (due11 (at-start .pre .1 .1) refl) (at-if1 .if1 .taken))
 
 add-p1 : (t : ℕ) → section-lts.Need-add-p1 (R t) (At t) section.Post
 add-p1 t c =
@@ -56,26 +56,26 @@ first-due-requires t c κs =
     let at-p2 = c .before .before in
     let at-judge = c .before .before .before .before .before .before in
     let at-start = c .before .before .before .before .before .before .before .before .before .before in
-    (some-1 (beside (at-start .pre .1 .0) is-section (at-start .pre .1 .1)) (at-judge .judge .ensures) (at-p2 .p2 .given .1), due11 (at-start .pre .1 .1) refl)
+    (_, _, (_, some-1 (beside (at-start .pre .1 .0) is-section (at-start .pre .1 .1)) (at-judge .judge .ensures) (at-p2 .p2 .given .1), due11 (at-start .pre .1 .1) refl))
 
 sub-judge-2 : (t : ℕ) → section-lts.Need-sub-judge-2 (R t) (At t) section.Post
 sub-judge-2 t c =
-    let at-start = c .before .before .before .before .before .before .before .before .before .before .before .before .before .before .before .before .before in
+    let at-start = c .before .before .before .before .before .before .before .before .before .before .before .before .before .before .before in
     pos-of-ne-zero (some-left (at-start .pre .1 .0))
 
 judge-requires-2 : (t : ℕ) → section-lts.Need-judge-requires-2 (R t) (At t) section.Post
 judge-requires-2 t c κs =
-    let at-m = c .before .before in
-    let at-start = c .before .before .before .before .before .before .before .before .before .before .before .before .before .before .before .before .before in
-    (less-left _ _ (at-start .pre .0) (some-left (at-start .pre .1 .0)), ready-2 (due t at-m))
+    let at-if1 = c .before in
+    let at-start = c .before .before .before .before .before .before .before .before .before .before .before .before .before .before .before in
+    (less-left _ _ (at-start .pre .0) (some-left (at-start .pre .1 .0)), ready-2 (due t at-if1))
 
 second-sync-requires : (t : ℕ) → section-lts.Need-second-sync-requires (R t) (At t) section.Post
 second-sync-requires t c κs =
     let at-p3 = c .before .before in
     let at-judge2 = c .before .before .before .before .before .before in
-    let at-m = c .before .before .before .before .before .before .before .before .before in
-    let at-start = c .before .before .before .before .before .before .before .before .before .before .before .before .before .before .before .before .before .before .before .before .before .before .before .before in
-    (some-2 (due t at-m) (at-judge2 .judge2 .ensures) (at-p3 .p3 .given .1), at-start .pre .1 .1)
+    let at-if1 = c .before .before .before .before .before .before .before .before in
+    let at-start = c .before .before .before .before .before .before .before .before .before .before .before .before .before .before .before .before .before .before .before .before .before .before in
+    (_, _, (_, some-2 (due t at-if1) (at-judge2 .judge2 .ensures) (at-p3 .p3 .given .1), at-start .pre .1 .1))
 
 returns : (t : ℕ) → section-lts.Need-returns (R t) (At t) section.Post
 returns t c =
@@ -87,37 +87,27 @@ returns t c =
 returns-2 : (t : ℕ) → section-lts.Need-returns-2 (R t) (At t) section.Post
 returns-2 t c =
     let at-k2 = c .before in
-    let at-first-due = c .before .before .before .before .before in
-    let at-p2 = c .before .before .before .before .before .before .before .before in
-    let at-judge = c .before .before .before .before .before .before .before .before .before .before .before .before in
-    let at-start = c .before .before .before .before .before .before .before .before .before .before .before .before .before .before .before .before in
-    stop-1 (beside (at-start .pre .1 .0) is-section (at-start .pre .1 .1)) (at-judge .judge .ensures) (at-p2 .p2 .given .1) (at-first-due .first-due .ensures) (at-k2 .k2 .given .1)
+    let at-judge2 = c .before .before .before .before .before in
+    let at-if1 = c .before .before .before .before .before .before .before in
+    refused-2 (due t at-if1) (at-judge2 .judge2 .ensures) (at-k2 .k2 .given .1)
 
 returns-3 : (t : ℕ) → section-lts.Need-returns-3 (R t) (At t) section.Post
 returns-3 t c =
-    let at-k3 = c .before in
-    let at-judge2 = c .before .before .before .before .before in
-    let at-m = c .before .before .before .before .before .before .before .before in
-    refused-2 (due t at-m) (at-judge2 .judge2 .ensures) (at-k3 .k3 .given .1)
+    let at-second-sync = c .before .before in
+    let at-p3 = c .before .before .before .before .before in
+    let at-judge2 = c .before .before .before .before .before .before .before .before .before in
+    let at-if1 = c .before .before .before .before .before .before .before .before .before .before .before in
+    let at-start = c .before .before .before .before .before .before .before .before .before .before .before .before .before .before .before .before .before .before .before .before .before .before .before .before .before in
+    ends-2 (due t at-if1) (at-judge2 .judge2 .ensures) (at-p3 .p3 .given .1) (at-second-sync .second-sync .ensures _ _ _) (at-start .pre .1 .1) (parts-are is-section (at-start .pre .1 .1))
 
 returns-4 : (t : ℕ) → section-lts.Need-returns-4 (R t) (At t) section.Post
 returns-4 t c =
-    let at-k4 = c .before in
-    let at-second-sync = c .before .before .before .before .before in
-    let at-p3 = c .before .before .before .before .before .before .before .before in
-    let at-judge2 = c .before .before .before .before .before .before .before .before .before .before .before .before in
-    let at-m = c .before .before .before .before .before .before .before .before .before .before .before .before .before .before .before in
-    stop-2 (due t at-m) (at-judge2 .judge2 .ensures) (at-p3 .p3 .given .1) (at-second-sync .second-sync .ensures) (at-k4 .k4 .given .1)
-
-returns-5 : (t : ℕ) → section-lts.Need-returns-5 (R t) (At t) section.Post
-returns-5 t c =
-    let at-all = c .before in
-    let at-second-sync = c .before .before .before .before .before in
-    let at-p3 = c .before .before .before .before .before .before .before .before in
-    let at-judge2 = c .before .before .before .before .before .before .before .before .before .before .before .before in
-    let at-m = c .before .before .before .before .before .before .before .before .before .before .before .before .before .before .before in
-    let at-start = c .before .before .before .before .before .before .before .before .before .before .before .before .before .before .before .before .before .before .before .before .before .before .before .before .before .before .before .before .before .before in
-    done-2 (after-2 (due t at-m) (at-judge2 .judge2 .ensures) (at-p3 .p3 .given .1) (at-second-sync .second-sync .ensures) (at-all .all .given .1)) (parts-are is-section (at-start .pre .1 .1))
+    let at-if1 = c in
+    let at-first-due = c .before .before .before in
+    let at-p2 = c .before .before .before .before .before .before in
+    let at-judge = c .before .before .before .before .before .before .before .before .before .before in
+    let at-start = c .before .before .before .before .before .before .before .before .before .before .before .before .before .before in
+    other-1 (beside (at-start .pre .1 .0) is-section (at-start .pre .1 .1)) (at-judge .judge .ensures) (at-p2 .p2 .given .1) (at-first-due .first-due .ensures) (due11 (at-start .pre .1 .1) refl) (at-if1 .if1 .left)
 
 pub section-met : {M : Type 1} (t : ℕ) → section-lts.Closed (R t) (At t) section.Post M
 section-met t =
@@ -128,22 +118,16 @@ section-met t =
     (λ c. search needs)
     (λ c. search needs)
     (first-due-requires t)
-    (λ c. search needs)
-    (λ c. search needs)
     (sub-judge-2 t)
     (judge-requires-2 t)
     (λ c. search needs)
     (λ c. search needs)
     (second-sync-requires t)
     (λ c. search needs)
-    (λ c. search needs)
-    (λ c. search needs)
     (returns t)
-    (λ c. search needs)
+    (λ c. returns-2 t c .frame .long)
     (returns-2 t)
     (λ c. returns-3 t c .frame .long)
     (returns-3 t)
-    (λ c. returns-4 t c .frame .long)
+    (λ c. search needs)
     (returns-4 t)
-    (λ c. returns-5 t c .frame .long)
-    (returns-5 t)
