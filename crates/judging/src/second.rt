@@ -9,11 +9,6 @@ use types::subtype;
 use types::subtype::Cmp;
 use types::subtype::Mode;
 ghost use mathlib.Core.Path.{_≡_};
-ghost use Prim.Native.Nat.{_-_, _<_, _≤_};
-ghost use lib.Bits.{bitOr};
-ghost use Rattle.judging.specs.declared.work.Answer.the-variants.{Typed};
-ghost use Rattle.judging.specs.Copies.{Movable, Moved};
-ghost use Rattle.judging.specs.Work.{slot};
 ghost use Rattle.judging.specs.Contract.{AskedIn2, Asked2, Answers2, AnyPart2, TestsIn2, AskedIn3, AnswersIn3};
 
 // An argument is below the function's, and the result is the function's.
@@ -72,15 +67,6 @@ pub(crate) fn second_sync(work: &mut [u8], left: u8, kept: u32, need: u32, next:
     let k = work[to + 1];
     copies::copy(work, slot_of(left - 1), to);
     Answer::Typed(next, kept | less(need, k))
-}
-
-// The part's type is the expression's: of a let and of a then.
-pub(crate) fn second_kept(work: &mut [u8], left: u8, kept: u32, need: u32, next: usize) -> Answer
-    requires { ⌜ Movable (now work) (slot (left - 1)) (slot left) × (0 < left) × (left ≤ 64) ⌝ }
-    ensures { λ r. ⌜ Moved (now (work .entry)) (now (work .exit)) (slot (left - 1)) (slot left) × (r ≡ Typed next (bitOr kept need)) ⌝ }
-{
-    copies::copy(work, slot_of(left - 1), slot_of(left));
-    Answer::Typed(next, kept | need)
 }
 
 // Both parts are Ints.

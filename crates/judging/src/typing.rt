@@ -20,10 +20,10 @@ use crate::second::after_third;
 use crate::second::second_add;
 use crate::second::second_app;
 use crate::second::second_cond;
-use crate::second::second_kept;
 use crate::second::second_sync;
 use crate::second::second_write;
 use crate::work::Answer;
+use crate::work::slot_of;
 ghost use mathlib.Core.Path.{_≡_};
 ghost use lib.ListN.{getD};
 ghost use Rattle.judging.specs.Contract.{Ready, Finds};
@@ -163,7 +163,10 @@ fn let_in(img: &[u8], at: usize, work: &mut [u8], vars: u8, locks: u8, left: u8)
             bind(img, at, work, vars, locks, left);
             match judge(img, p2, work, vars + 1, locks, left - 1) {
                 Answer::Refused(k, p) => Answer::Refused(k, p),
-                Answer::Typed(p3, n) => second_kept(work, left, m, n, p3),
+                Answer::Typed(p3, n) => {
+                    copies::copy(work, slot_of(left - 1), slot_of(left));
+                    Answer::Typed(p3, m | n)
+                }
             }
         }
     }
@@ -179,7 +182,10 @@ fn then(img: &[u8], at: usize, work: &mut [u8], vars: u8, locks: u8, left: u8) -
         Answer::Typed(p2, m) => {
             match judge(img, p2, work, vars, locks, left - 1) {
                 Answer::Refused(k, p) => Answer::Refused(k, p),
-                Answer::Typed(p3, n) => second_kept(work, left, m, n, p3),
+                Answer::Typed(p3, n) => {
+                    copies::copy(work, slot_of(left - 1), slot_of(left));
+                    Answer::Typed(p3, m | n)
+                }
             }
         }
     }

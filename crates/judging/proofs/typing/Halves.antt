@@ -2,7 +2,7 @@
 use mathlib.Core.Path.{_≡_, refl, ap, sym, _∙_, subst}
 use mathlib.Core.List.{List}
 use mathlib.Core.Logic.{_⊎_, inl, inr}
-use Prim.Native.Nat.{ℕ, _+_, _-_, _<_, _≤_}
+use Prim.Native.Nat.{ℕ, _+_, _-_, _<_}
 use native.Mathlib.Omega.{arith}
 use native.Mathlib.Nat.{add-zero, pos-of-ne-zero}
 use lib.Bits.{bitOr, or-lt}
@@ -175,19 +175,15 @@ module _ {img w : List ℕ} {at v n left : ℕ} (S : Ready img w at v n left) (c
             gave-2 : (R : Ready img w at v n left) → Gave w4 (left - 1) n (R .next) (judge (env2 (R .x) (gave-1 R .type) (R .env)) (half R .b)) p3 m2
             gave-2 R = out-typed w4 (left - 1) n (R .next) _ (out-2 R) T2
 
-            pub chain-movable : Movable w4 (slot (left - 1)) (slot left) × (0 < left) × (left ≤ 64)
+            pub chain-movable : Movable w4 (slot (left - 1)) (slot left)
             chain-movable =
-                let d = pos-of-ne-zero (some-left S) in
-                let e = S .deep in
-                (slot-movable w4 left n (gave-2 S .type) (omega (arith, S .room, frame-4 .long)) d (omega arith) (gave-2 S .slotted), d, omega arith)
+                let d = some-left S in
+                slot-movable w4 left n (gave-2 S .type) (omega (arith, S .room, frame-4 .long)) (pos-of-ne-zero d) (omega (arith, S .deep)) (gave-2 S .slotted)
 
-            pub chain-done : {w5 : List ℕ} {r : Answer} → Moved w4 w5 (slot (left - 1)) (slot left) × (r ≡ Typed p3 (bitOr m1 m2)) → Finds img w w5 at v n left r
-            chain-done {w5} {r} h = subst (Finds img w w5 at v n left) (sym (h .1)) (chained (h .0))
-              where
-                chained : Moved w4 w5 (slot (left - 1)) (slot left) → Finds img w w5 at v n left (Typed p3 (bitOr m1 m2))
-                chained M =
-                    finds S (frame-then v left frame-4 (frame-slot v left (M .kept) (S .deep))) λ R.
-                    let g = gave-1 R in
-                    let h = gave-2 R in
-                    let y : judge (R .env) (R .x) ≡ typed (h .type) (bitOr m1 m2) = from-1 R ∙ typed-then _ (h .is) ∙ ap (typed (h .type)) (two-needs n m1 m2 (R .few) (g .small) (h .small)) in
-                    rw y (ap (λ (p : ℕ). Typed p (bitOr m1 m2)) (sym (h .next-is)), slot-moved w4 w5 left n (h .type) M (h .slotted), or-lt n m1 m2 (g .small) (h .small))
+            pub chain-done : {w5 : List ℕ} → Moved w4 w5 (slot (left - 1)) (slot left) → Finds img w w5 at v n left (Typed p3 (bitOr m1 m2))
+            chain-done {w5} M =
+                finds S (frame-then v left frame-4 (frame-slot v left (M .kept) (S .deep))) λ R.
+                let g = gave-1 R in
+                let h = gave-2 R in
+                let y : judge (R .env) (R .x) ≡ typed (h .type) (bitOr m1 m2) = from-1 R ∙ typed-then _ (h .is) ∙ ap (typed (h .type)) (two-needs n m1 m2 (R .few) (g .small) (h .small)) in
+                rw y (ap (λ (p : ℕ). Typed p (bitOr m1 m2)) (sym (h .next-is)), slot-moved w4 w5 left n (h .type) M (h .slotted), or-lt n m1 m2 (g .small) (h .small))

@@ -8,14 +8,15 @@ use borrow.Author.Needs.{needs}
 use Rattle.judging.proofs.typing.One.{less-left, inside, some-left}
 use Rattle.judging.proofs.typing.Halves.{then-binds, chain-ready-1, chain-refused-1, chain-ready-2, chain-refused-2, chain-movable, chain-done, then-bound}
 use Rattle.judging.proofs.typing.+add+apply+conditional+fork+function+judge+let_in+new_cell+new_lock+read+section+then+write.Proof.Measures.{judge-below, rule-at}
-use Rattle.judging.proofs.second.second_kept.Reads as second-kept-reads
+use Rattle.judging.proofs.copies.copy.Reads as copy-reads
 use Rattle.judging.proofs.typing.judge.Reads as judge
 use Rattle.judging.proofs.typing.judge.Kinds as judge-kinds
+use Rattle.judging.proofs.work.slot_of.Reads as slot-of-reads
 use Rattle.judging.proofs.typing.then.Reads as then
 use Rattle.judging.proofs.typing.+add+apply+conditional+fork+function+judge+let_in+new_cell+new_lock+read+section+then+write.Lts-then as then-lts
 
 abbrev R : ℕ → then-lts.Claims
-R t = (judge-below t, judge.Post, second-kept-reads.Asked, second-kept-reads.Learnt)
+R t = (judge-below t, judge.Post, slot-of-reads.Asked, slot-of-reads.Learnt, copy-reads.Asked, copy-reads.Learnt)
 
 abbrev At : ℕ → In 2 judge-kinds.ps
 At = rule-at then.Pre
@@ -47,14 +48,31 @@ judge-requires-2 t c κs =
     let at-start = c .before .before .before .before .before .before .before .before .before .before in
     (less-left _ _ (at-start .pre .0) (some-left (at-start .pre .1 .0)), chain-ready-2 (at-start .pre .1 .0) (inr (at-start .pre .1 .1)) (at-judge .judge .ensures) (at-p2 .p2 .given .1) (then-bound (at-start .pre .1 .0) (inr (at-start .pre .1 .1)) (at-judge .judge .ensures) (at-p2 .p2 .given .1) (at-start .pre .1 .1)) (then-binds _ (at-start .pre .1 .1)))
 
-second-kept-requires : (t : ℕ) → then-lts.Need-second-kept-requires (R t) (At t) then.Post
-second-kept-requires t c κs =
-    let at-p3 = c .before .before in
-    let at-judge2 = c .before .before .before .before .before .before in
-    let at-p2 = c .before .before .before .before .before .before .before .before .before in
-    let at-judge = c .before .before .before .before .before .before .before .before .before .before .before .before .before in
+sub-slot-of : (t : ℕ) → then-lts.Need-sub-slot-of (R t) (At t) then.Post
+sub-slot-of t c =
     let at-start = c .before .before .before .before .before .before .before .before .before .before .before .before .before .before .before .before .before in
-    chain-movable (at-start .pre .1 .0) (inr (at-start .pre .1 .1)) (at-judge .judge .ensures) (at-p2 .p2 .given .1) (then-bound (at-start .pre .1 .0) (inr (at-start .pre .1 .1)) (at-judge .judge .ensures) (at-p2 .p2 .given .1) (at-start .pre .1 .1)) (then-binds _ (at-start .pre .1 .1)) (at-judge2 .judge2 .ensures) (at-p3 .p3 .given .1)
+    pos-of-ne-zero (some-left (at-start .pre .1 .0))
+
+slot-of-requires : (t : ℕ) → then-lts.Need-slot-of-requires (R t) (At t) then.Post
+slot-of-requires t c κs =
+    let at-start = c .before .before .before .before .before .before .before .before .before .before .before .before .before .before .before .before .before in
+    omega (arith, at-start .pre .1 .0 .deep)
+
+slot-of-requires-2 : (t : ℕ) → then-lts.Need-slot-of-requires-2 (R t) (At t) then.Post
+slot-of-requires-2 t c κs =
+    let at-start = c .before .before .before .before .before .before .before .before .before .before .before .before .before .before .before .before .before .before in
+    omega (arith, at-start .pre .1 .0 .deep)
+
+copy-requires : (t : ℕ) → then-lts.Need-copy-requires (R t) (At t) then.Post
+copy-requires t c κs =
+    let at-slot-of2 = c in
+    let at-slot-of = c .before in
+    let at-p3 = c .before .before .before .before in
+    let at-judge2 = c .before .before .before .before .before .before .before .before in
+    let at-p2 = c .before .before .before .before .before .before .before .before .before .before .before in
+    let at-judge = c .before .before .before .before .before .before .before .before .before .before .before .before .before .before .before in
+    let at-start = c .before .before .before .before .before .before .before .before .before .before .before .before .before .before .before .before .before .before .before in
+    rw (at-slot-of .slot-of .ensures, at-slot-of2 .slot-of2 .ensures) (chain-movable (at-start .pre .1 .0) (inr (at-start .pre .1 .1)) (at-judge .judge .ensures) (at-p2 .p2 .given .1) (then-bound (at-start .pre .1 .0) (inr (at-start .pre .1 .1)) (at-judge .judge .ensures) (at-p2 .p2 .given .1) (at-start .pre .1 .1)) (then-binds _ (at-start .pre .1 .1)) (at-judge2 .judge2 .ensures) (at-p3 .p3 .given .1))
 
 returns : (t : ℕ) → then-lts.Need-returns (R t) (At t) then.Post
 returns t c =
@@ -74,13 +92,15 @@ returns-2 t c =
 
 returns-3 : (t : ℕ) → then-lts.Need-returns-3 (R t) (At t) then.Post
 returns-3 t c =
-    let at-second-kept = c .before .before in
-    let at-p3 = c .before .before .before .before .before in
-    let at-judge2 = c .before .before .before .before .before .before .before .before .before in
-    let at-p2 = c .before .before .before .before .before .before .before .before .before .before .before .before in
-    let at-judge = c .before .before .before .before .before .before .before .before .before .before .before .before .before .before .before .before in
-    let at-start = c .before .before .before .before .before .before .before .before .before .before .before .before .before .before .before .before .before .before .before .before in
-    chain-done (at-start .pre .1 .0) (inr (at-start .pre .1 .1)) (at-judge .judge .ensures) (at-p2 .p2 .given .1) (then-bound (at-start .pre .1 .0) (inr (at-start .pre .1 .1)) (at-judge .judge .ensures) (at-p2 .p2 .given .1) (at-start .pre .1 .1)) (then-binds _ (at-start .pre .1 .1)) (at-judge2 .judge2 .ensures) (at-p3 .p3 .given .1) (at-second-kept .second-kept .ensures)
+    let at-copy = c .before .before in
+    let at-slot-of2 = c .before .before .before in
+    let at-slot-of = c .before .before .before .before in
+    let at-p3 = c .before .before .before .before .before .before .before in
+    let at-judge2 = c .before .before .before .before .before .before .before .before .before .before .before in
+    let at-p2 = c .before .before .before .before .before .before .before .before .before .before .before .before .before .before in
+    let at-judge = c .before .before .before .before .before .before .before .before .before .before .before .before .before .before .before .before .before .before in
+    let at-start = c .before .before .before .before .before .before .before .before .before .before .before .before .before .before .before .before .before .before .before .before .before .before in
+    chain-done (at-start .pre .1 .0) (inr (at-start .pre .1 .1)) (at-judge .judge .ensures) (at-p2 .p2 .given .1) (then-bound (at-start .pre .1 .0) (inr (at-start .pre .1 .1)) (at-judge .judge .ensures) (at-p2 .p2 .given .1) (at-start .pre .1 .1)) (then-binds _ (at-start .pre .1 .1)) (at-judge2 .judge2 .ensures) (at-p3 .p3 .given .1) (rw (at-slot-of .slot-of .ensures, at-slot-of2 .slot-of2 .ensures) at (at-copy .copy .ensures))
 
 pub then-met : {M : Type 1} (t : ℕ) → then-lts.Closed (R t) (At t) then.Post M
 then-met t =
@@ -94,7 +114,10 @@ then-met t =
     (judge-requires-2 t)
     (λ c. search needs)
     (λ c. search needs)
-    (second-kept-requires t)
+    (sub-slot-of t)
+    (slot-of-requires t)
+    (slot-of-requires-2 t)
+    (copy-requires t)
     (λ c. search needs)
     (returns t)
     (λ c. search needs)
