@@ -126,12 +126,9 @@ AnswersIn1 B img at part w w′ left need next r = (n : ℕ) → Some1 img w at 
 abbrev pub Answers1 : (ℕ → Type 0) → ℕ → List ℕ → List ℕ → ℕ → ℕ → ℕ → Answer → Type 0
 Answers1 B part w w′ left need next r = (img : List ℕ) (at : ℕ) → AnswersIn1 B img at part w w′ left need next r
 
--- where no refusal is at the part
-abbrev pub AnyPart1 : (ℕ → Type 0) → List ℕ → ℕ → List ℕ → List ℕ → ℕ → ℕ → ℕ → Answer → Type 0
-AnyPart1 B img at w w′ left need next r = (part : ℕ) → AnswersIn1 B img at part w w′ left need next r
-
+-- where a refusal is at the expression, and none at the part
 abbrev pub AnswersAt1 : (ℕ → Type 0) → ℕ → List ℕ → List ℕ → ℕ → ℕ → ℕ → Answer → Type 0
-AnswersAt1 B at w w′ left need next r = (img : List ℕ) → AnyPart1 B img at w w′ left need next r
+AnswersAt1 B at w w′ left need next r = (img : List ℕ) (part : ℕ) → AnswersIn1 B img at part w w′ left need next r
 
 abbrev pub AskedIn2 : (ℕ → Type 0) → List ℕ → ℕ → List ℕ → ℕ → Type 0
 AskedIn2 B img at w left = (n : ℕ) × Some2 img w at n left × B (getD img at 0)
@@ -145,6 +142,7 @@ AnswersIn2 B img at part w w′ left m need next r = (n : ℕ) → Some2 img w a
 abbrev pub Answers2 : (ℕ → Type 0) → ℕ → List ℕ → List ℕ → ℕ → ℕ → ℕ → ℕ → Answer → Type 0
 Answers2 B part w w′ left m need next r = (img : List ℕ) (at : ℕ) → AnswersIn2 B img at part w w′ left m need next r
 
+-- where there is no refusal
 abbrev pub AnyPart2 : (ℕ → Type 0) → List ℕ → List ℕ → ℕ → ℕ → ℕ → ℕ → Answer → Type 0
 AnyPart2 B w w′ left m need next r = (part : ℕ) → Answers2 B part w w′ left m need next r
 

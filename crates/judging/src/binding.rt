@@ -6,7 +6,9 @@ use crate::work::Answer;
 use crate::work::slot_of;
 use crate::work::var_at;
 ghost use mathlib.Core.Path.{_≡_};
+ghost use Prim.Native.Nat.{_+_, _-_};
 ghost use lib.ListN.{getD};
+ghost use Rattle.judging.specs.Copies.{Ends};
 ghost use Rattle.judging.specs.Contract.{Ready, Finds, Entered, Bindable, Bound, Starts};
 
 // A unit has the type Unit, code 32, and needs nothing.
@@ -65,7 +67,7 @@ pub(crate) fn argument(
     left: u8,
 ) -> usize
     requires { ⌜ Ready (now img) (now work) at vars locks left × (getD (now img) at 0 ≡ 4) ⌝ }
-    ensures { λ r. ⌜ Entered (now (img .entry)) (now (work .entry)) (now (work .exit)) at vars locks × Starts (now (img .entry)) at vars locks r ⌝ }
+    ensures { λ r. ⌜ Entered (now (img .entry)) (now (work .entry)) (now (work .exit)) at vars locks × Starts (now (img .entry)) at vars locks r × Ends (now (img .entry)) (at + 1) (r - 4) ⌝ }
 {
     let to = var_at(vars);
     let p = copies::skip(img, at + 1);

@@ -11,7 +11,9 @@ use types::subtype;
 use types::subtype::Cmp;
 use types::subtype::Mode;
 ghost use mathlib.Core.Path.{_≡_};
-ghost use Rattle.judging.specs.Contract.{AskedIn1, Asked1, AnswersIn1, Answers1, AnyPart1, AnswersAt1, Tests1, Due};
+ghost use Prim.Native.Nat.{_+_, _-_};
+ghost use Rattle.judging.specs.Copies.{Ends};
+ghost use Rattle.judging.specs.Contract.{AskedIn1, Asked1, AnswersIn1, Answers1, AnswersAt1, Tests1, Due};
 
 // Whether the part is of the kind due: a Function, a Ref or a Lock.
 pub(crate) fn first_due(work: &mut [u8], left: u8, kind: u8) -> bool
@@ -83,7 +85,7 @@ pub(crate) fn first_read(part: usize, work: &mut [u8], left: u8, need: u32, next
     Answer::Typed(next, need | only(k))
 }
 
-// A new cell's content is below the stated type.
+// A new cell's content is below the stated type, behind which it stands.
 pub(crate) fn first_cell(
     img: &[u8],
     at: usize,
@@ -94,13 +96,13 @@ pub(crate) fn first_cell(
     next: usize,
 ) -> Answer
     requires { ⌜ AskedIn1 (λ b. b ≡ 6) (now img) at (now work) left ⌝ }
+    requires { ⌜ Ends (now img) (at + 2) part ⌝ }
     ensures { λ r. ⌜ AnswersIn1 (λ b. b ≡ 6) (now (img .entry)) at part (now (work .entry)) (now (work .exit)) left need next r ⌝ }
 {
     match subtype::related(work, slot_of(left - 1), img, at + 2, Mode::Below) {
         Cmp::Differ => Answer::Refused(12, part),
         Cmp::Next(_) => {
-            let p = copies::skip(img, at + 2);
-            let size = p - (at + 2);
+            let size = part - (at + 2);
             if 254 < size {
                 return Answer::Refused(10, at);
             }
@@ -114,20 +116,22 @@ pub(crate) fn first_cell(
     }
 }
 
-// A function needs nothing itself: its body needs what the set declares. Its type is put together, in a buffer of its own, from the argument,
-// the set and the result.
+// A function needs nothing itself: its body, which stands behind the stated type and the set's four bytes, needs what the set declares. Its type
+// is put together, in a buffer of its own, from the argument, the set and the result.
 pub(crate) fn first_lam(
     img: &[u8],
     at: usize,
+    part: usize,
     work: &mut [u8],
     left: u8,
     need: u32,
     next: usize,
 ) -> Answer
     requires { ⌜ AskedIn1 (λ b. b ≡ 4) (now img) at (now work) left ⌝ }
-    ensures { λ r. ⌜ AnyPart1 (λ b. b ≡ 4) (now (img .entry)) at (now (work .entry)) (now (work .exit)) left need next r ⌝ }
+    requires { ⌜ Ends (now img) (at + 1) (part - 4) ⌝ }
+    ensures { λ r. ⌜ AnswersIn1 (λ b. b ≡ 4) (now (img .entry)) at part (now (work .entry)) (now (work .exit)) left need next r ⌝ }
 {
-    let p = copies::skip(img, at + 1);
+    let p = part - 4;
     let set = number(img, p);
     if need & set != need {
         return Answer::Refused(13, at);

@@ -36,7 +36,7 @@ fn function(img: &[u8], at: usize, work: &mut [u8], vars: u8, locks: u8, left: u
     let p1 = argument(img, at, work, vars, locks, left);
     match judge(img, p1, work, vars + 1, locks, left - 1) {
         Answer::Refused(k, p) => Answer::Refused(k, p),
-        Answer::Typed(p2, need) => first_lam(img, at, work, left, need, p2),
+        Answer::Typed(p2, need) => first_lam(img, at, p1, work, left, need, p2),
     }
 }
 

@@ -43,9 +43,6 @@ module _ {img w : List ℕ} {at n left : ℕ} (O : Some1 img w at n left) (ez : 
       by-cell (λ x. Facts v n img x → placeOf x ≡ at → P x) x (W .is .coded ∙ ez)
       (λ p k t a F g. f k t a p g (subst (λ (z : ℕ). Byte img (z + 1) k) g (F .0)) (F .1) (subst (λ (z : ℕ). Holds img (z + 2) t) g (F .3 .is .holds)) (F .3 .is .within)) (W .is .facts) (W .is .place)
 
-  pub cell-there : (t : Ty) × Holds img (at + 2) t
-  cell-there = by-it (O .0) (O .1) (λ x. (t : Ty) × Holds img (at + 2) t) (O .2) (λ k t a p g hk kn h wt. (t, h))
-
   pub cell-room : (p : ℕ) → Ends img (at + 2) p → (at + 2 ≤ p) × (p ≤ length img)
   cell-room p d = by-it (O .0) (O .1) (λ x. (at + 2 ≤ p) × (p ≤ length img)) (O .2) (λ k t a p g hk kn h wt. let z = d t h in (omega arith, omega (arith, holds-end img (at + 2) t h)))
 

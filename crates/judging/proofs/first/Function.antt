@@ -41,9 +41,6 @@ module _ {img w : List ℕ} {at n left : ℕ} (O : Some1 img w at n left) (ez : 
       (λ p a s y F g. f a s y p g (subst (λ (z : ℕ). Holds img (z + 1) a) g (F .1 .is .holds)) (F .1 .is .within)
       (subst (λ (z : ℕ). Four img (z + 1 + tySize a) s) g (subst (λ (z : ℕ). Four img z s) (F .1 .is .end) (F .2))) (F .3)) (W .is .facts) (W .is .place)
 
-  pub lam-there : (t : Ty) × Holds img (at + 1) t
-  lam-there = by-f (O .0) (O .1) (λ x. (t : Ty) × Holds img (at + 1) t) (O .2) (λ a s y p g h wt f z. (a, h))
-
   pub lam-result : (t : Ty) × Holds w (slot (left - 1)) t
   lam-result = (O .3, O .4 .there)
 

@@ -1,7 +1,7 @@
 -- How each rule begins: where its first part stands, what that part is under, and how many parts there are.
 use mathlib.Core.Path.{_≡_, refl, ap, sym, _∙_}
 use mathlib.Core.List.{List}
-use Prim.Native.Nat.{ℕ, zero, suc, _+_, _<_}
+use Prim.Native.Nat.{ℕ, zero, suc, _+_, _-_, _<_}
 use native.Mathlib.Omega.{arith}
 use native.Mathlib.Nat.{add-zero, le-antisymm}
 use lib.ListN.{getD}
@@ -73,7 +73,7 @@ module _ {img w : List ℕ} {at v n left : ℕ} (R : Ready img w at v n left) wh
   pub behind-type : {p : ℕ} → getD img at 0 ≡ 15 → Ends img (at + 1) p → Started img w w at v n left p v n
   behind-type e d = let o = own-read R in bare (omega arith) (λ f. omega arith) (λ f. omega arith) (starts o (start-if o e .ends _ d))
 
-  pub under-argument : {w1 : List ℕ} {p : ℕ} → getD img at 0 ≡ 4 → Entered img w w1 at v n × Starts img at v n p → Started img w w1 at v n left p (v + 1) n
+  pub under-argument : {w1 : List ℕ} {p : ℕ} → getD img at 0 ≡ 4 → Entered img w w1 at v n × Starts img at v n p × Ends img (at + 1) (p - 4) → Started img w w1 at v n left p (v + 1) n
   unfolding binds1 locks1
   under-argument e h = record { ready = R; big = omega arith; starts = h .1; entered = h .0; vars = rw e; locks = rw e (add-zero n) }
 

@@ -65,7 +65,7 @@ returns c =
     let at-start = c .before .before .before .before .before .before .before .before in
     let o = own-read (at-start .pre .0) in
     let l = start-lam o (at-start .pre .1) in
-    (rw (at-var-at .var-at .ensures) (enter-lam (at-start .pre .0) _ _ (at-start .pre .1) (at-skip .skip .ensures) (rw (at-var-at .var-at .ensures) at (at-copy-in .copy-in .ensures))), starts o (omega (arith, l .1 .ends _ (at-skip .skip .ensures), l .2)))
+    (rw (at-var-at .var-at .ensures) (enter-lam (at-start .pre .0) _ _ (at-start .pre .1) (at-skip .skip .ensures) (rw (at-var-at .var-at .ensures) at (at-copy-in .copy-in .ensures))), starts o (omega (arith, l .1 .ends _ (at-skip .skip .ensures), l .2)), λ t h. omega (arith, at-skip .skip .ensures t h))
 
 pub argument-spec : {M : Type 1} → statement M
 argument-spec =

@@ -49,7 +49,7 @@ first-lam-requires t c κs =
     let at-judge = c .before .before .before .before .before .before in
     let at-argument = c .before .before .before .before .before .before .before .before .before .before in
     let at-start = c .before .before .before .before .before .before .before .before .before .before .before .before .before .before in
-    (_, some-1 (under-argument (at-start .pre .1 .0) (at-start .pre .1 .1) (at-argument .argument .ensures)) (at-judge .judge .ensures) (at-p2 .p2 .given .1), at-start .pre .1 .1)
+    ((_, some-1 (under-argument (at-start .pre .1 .0) (at-start .pre .1 .1) (at-argument .argument .ensures)) (at-judge .judge .ensures) (at-p2 .p2 .given .1), at-start .pre .1 .1), at-argument .argument .ensures .2)
 
 returns : (t : ℕ) → function-lts.Need-returns (R t) (At t) function.Post
 returns t c =
@@ -67,7 +67,7 @@ returns-2 t c =
     let at-judge = c .before .before .before .before .before .before .before .before .before in
     let at-argument = c .before .before .before .before .before .before .before .before .before .before .before .before .before in
     let at-start = c .before .before .before .before .before .before .before .before .before .before .before .before .before .before .before .before .before in
-    ends-1 (under-argument (at-start .pre .1 .0) (at-start .pre .1 .1) (at-argument .argument .ensures)) (at-judge .judge .ensures) (at-p2 .p2 .given .1) (at-first-lam .first-lam .ensures _) (at-start .pre .1 .1) (one-part (at-start .pre .1 .1) refl)
+    ends-1 (under-argument (at-start .pre .1 .0) (at-start .pre .1 .1) (at-argument .argument .ensures)) (at-judge .judge .ensures) (at-p2 .p2 .given .1) (at-first-lam .first-lam .ensures) (at-start .pre .1 .1) (one-part (at-start .pre .1 .1) refl)
 
 pub function-met : {M : Type 1} (t : ℕ) → function-lts.Closed (R t) (At t) function.Post M
 function-met t =

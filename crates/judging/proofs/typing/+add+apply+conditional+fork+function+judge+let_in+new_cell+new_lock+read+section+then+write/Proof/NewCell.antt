@@ -51,7 +51,7 @@ first-cell-requires t c κs =
     let at-judge = c .before .before .before .before .before .before in
     let at-skip = c .before .before .before .before .before .before .before .before in
     let at-start = c .before .before .before .before .before .before .before .before .before .before .before in
-    (_, some-1 (behind-name (at-start .pre .1 .0) (at-start .pre .1 .1) (at-skip .skip .ensures)) (at-judge .judge .ensures) (at-p2 .p2 .given .1), at-start .pre .1 .1)
+    ((_, some-1 (behind-name (at-start .pre .1 .0) (at-start .pre .1 .1) (at-skip .skip .ensures)) (at-judge .judge .ensures) (at-p2 .p2 .given .1), at-start .pre .1 .1), at-skip .skip .ensures)
 
 returns : (t : ℕ) → new-cell-lts.Need-returns (R t) (At t) new-cell.Post
 returns t c =
