@@ -15,7 +15,7 @@ use Rattle.paper.specs.Answers.{forked}
 use Rattle.paper.specs.Steps.{Move, full, goes, nothing, newCell, newLock, released, newThread, orStuck, newPlace}
 use Rattle.slots.specs.Put.{piece, putIn, Put}
 use Rattle.slots.specs.PutTerm.{put-whole}
-use Rattle.slots.specs.Written.{Written}
+use Rattle.writing.specs.Written.{Written}
 use Rattle.machine.specs.declared.act.Act.{Act}
 use Rattle.machine.specs.declared.act.Act.the-variants.{Stuck, Full, Long, Waits, Goes}
 use Rattle.machine.specs.declared.act.Also.the-variants.{Nothing, NewCell, SetCell, NewLock, Taken, Released, NewThread}

@@ -19,7 +19,7 @@ use Rattle.slots.specs.Codes.{isValue}
 use Rattle.slots.specs.Put.{piece}
 use Rattle.slots.specs.TermAt.{some-bytes, value-at}
 use Rattle.slots.specs.WayTerm.{found}
-use Rattle.slots.specs.Written.{Written, roomFor}
+use Rattle.writing.specs.Written.{Written, roomFor}
 use Rattle.machine.specs.declared.step.Due.{Due}
 use Rattle.machine.specs.declared.step.Step.the-variants.{NoSuchThread, IsFinished}
 use Rattle.machine.specs.Means.{Part, part-bytes, part-cut, became}

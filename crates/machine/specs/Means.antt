@@ -15,7 +15,7 @@ use Rattle.paper.specs.Steps.{Change, nothing, newCell, setCell, newLock, taken
 use Rattle.paper.specs.Steps.{Move, waits, stuck, full, long, goes}
 use Rattle.paper.specs.Calls.{laid}
 use Rattle.slots.specs.Put.{piece}
-use Rattle.slots.specs.Written.{Written, written-fits, written-behind, stands-none, roomFor}
+use Rattle.writing.specs.Written.{Written, written-fits, written-behind, stands-none, roomFor}
 use Rattle.slots.specs.TermAt.{some-bytes, stands}
 use Rattle.machine.specs.declared.act.Act.{Act}
 use Rattle.machine.specs.declared.act.Act.the-variants.{Stuck, Full, Long, Waits, Goes}

@@ -11,9 +11,9 @@ use crate::act::Act;
 use crate::act::Also;
 use plans::store::byte_at;
 use plans::store::two_at;
-use slots::put::fill;
-use slots::put::fill_both;
 use slots::put::put;
+use writing::fill;
+use writing::fill_both;
 
 pub(crate) fn apply(s: &[u8], g: usize, out: &mut [u8], stack: &mut [u8]) -> Act
     requires { ⌜ Cut2 (now s) 1 g (length (now s)) ⌝ }

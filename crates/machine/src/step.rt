@@ -12,9 +12,9 @@ use plans::store::byte_at;
 use plans::store::exchange;
 use plans::store::two_at;
 use slots::codes::value;
-use slots::put::fill;
 use slots::walk::skip;
 use slots::way::place;
+use writing::fill;
 
 // The answer of a step: a kind and a number, or why there was none.
 pub enum Step {

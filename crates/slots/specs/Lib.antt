@@ -9,7 +9,6 @@ pub mod WayLoop
 pub mod Sections
 pub mod SectionsLoop
 pub mod Slot
-pub mod Written
 pub mod Put
 pub mod PutBytes
 pub mod PutLoop

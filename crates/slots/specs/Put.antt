@@ -11,7 +11,7 @@ use Rattle.paper.specs.Base.{choose}
 use Rattle.slots.specs.Codes.{fieldOf}
 use Rattle.slots.specs.Due.{Due, due, index, done, ended, after}
 use Rattle.slots.specs.Lent.{swept}
-use Rattle.slots.specs.Written.{Written, written-one}
+use Rattle.writing.specs.Written.{Written, written-one}
 
 -- the bytes of v for each variable that is the outermost one, the others as they are
 unfoldable pub putBytes : List ℕ → List ℕ → ℕ → Due → List ℕ

@@ -5,16 +5,15 @@ use mathlib.Core.List.{List, [], _++_, append-assoc, append-nil}
 use Prim.Native.Nat.{ℕ, _+_, _-_, _*_, _/_, _<_, _≤_, min}
 use native.Mathlib.Omega.{arith}
 use lib.Dec.{eqb, ltb}
-use lib.ListN.{length, getD, take, drop, drop-of-length-le, length-drop, take-append-drop}
-use lib.Seq.{drop-drop, take-add, take-all, length-take-le}
+use lib.ListN.{length, getD, take, drop, drop-of-length-le, length-drop}
+use lib.Seq.{drop-drop, take-add, take-all}
 use borrow.Author.Tests.{lt-ltb, le-ltb, ltb-true}
-use Rattle.paper.specs.Calls.{laid}
 use Rattle.laws.specs.Tests.{split}
 use Rattle.slots.specs.Codes.{fieldOf}
 use Rattle.slots.specs.Due.{Due, due, ended, after, stackOf, dueOf, pushOf, push≤two, Stacked}
 use Rattle.slots.specs.Lent.{swept, swept-none}
-use Rattle.slots.specs.Written.{Written, written-fits, written-short, Stands, fits-stands, stands-written}
-use Rattle.slots.specs.Written.{stands-length, written-behind, cut-first, cut-written}
+use Rattle.writing.specs.Written.{Written, written-fits, written-short, Stands, fits-stands, stands-first}
+use Rattle.writing.specs.Written.{stands-length, written-behind, none-written, cut-written}
 use Rattle.slots.specs.Put.{putBytes, putOf, hit, piece, putIn, Put}
 use Rattle.slots.specs.PutBytes.{put-over, put-end, put-var, put-code}
 
@@ -45,23 +44,13 @@ pub record Putting (all src v before dst stack : List ℕ) (dn : Bool) (d sp out
   pub inside : from ≤ length src
 
 module _ (src v before : List ℕ) (at : ℕ) (h : at ≤ length before) where
-  lead : Stands (take at before) before before at
-  unfolding laid
-  lead =
-      let e = length-take-le at before h in
-      record {
-        bytes = sym (ap (λ (k : ℕ). take at before ++ drop k before) e ∙ take-append-drop at before);
-        next = sym e;
-        room = omega arith;
-      }
-
   pub putting-start : (stack : List ℕ) → length stack ≡ 2 * length src
       → Putting (take at before ++ putOf src v) src v before before stack false 0 0 at 0 0
   unfolding putOf stackOf
   putting-start stack e = record {
     sofar = take at before;
     same = refl;
-    stands = lead;
+    stands = stands-first before at h;
     long = e;
     top = omega arith;
     deep = omega arith;
@@ -182,7 +171,7 @@ module _ (src v d st : List ℕ) (at a : ℕ) (ea : a ≡ min at (length d)) whe
   pub put-short : length st / 2 < length src → Put src v d at d st st a
   unfolding putIn
   put-short h = record {
-    written = rw (lt-ltb (length st) (2 * length src) (omega arith), append-nil (take at d)) (subst (λ (x : List ℕ). Written x d d a) (cut-first d at a ea) (stands-written (lead src v d a (omega arith))));
+    written = rw (lt-ltb (length st) (2 * length src) (omega arith)) (none-written d at a ea);
     stack = swept-none (2 * length src) st (omega arith);
   }
 

@@ -1,50 +1,19 @@
-// A new expression, made of an old one's bytes, into a lent buffer: a value put for the outermost variable, or bytes one behind the other.
+// A new expression, made of an old one's bytes, into a lent buffer: a value put for the outermost variable.
 ghost use mathlib.Core.Path.{_≡_};
 ghost use mathlib.Core.List.{_++_};
-ghost use Prim.Native.Nat.{_+_, _*_, _≤_, _<_, min};
+ghost use Prim.Native.Nat.{_+_, _*_, _≤_, _<_};
 ghost use lib.ListN.{length, take};
-ghost use Rattle.slots.specs.Written.{Written};
+ghost use Rattle.writing.specs.Written.{Written};
 ghost use Rattle.slots.specs.Put.{hit, putOf, Put};
 use crate::codes::byte;
 use crate::codes::fields;
 use crate::stack::Next;
 use crate::stack::after;
 use crate::stack::ended;
+use writing::fill;
+use writing::fill_both;
+use writing::least;
 use zeros::clear;
-
-fn least(a: usize, b: usize) -> usize
-    ensures { λ r. ⌜ r ≡ min a b ⌝ }
-{
-    if a < b { a } else { b }
-}
-
-// v into dst from `at` on, as far as there is room: the place after it, or one more than dst's length.
-pub fn fill(v: &[u8], dst: &mut [u8], at: usize) -> usize
-    ensures { λ r. ⌜ Written (take at (now (dst .entry)) ++ now (v .entry)) (now (dst .entry)) (now (dst .exit)) r ⌝ }
-{
-    let from = least(at, dst.len());
-    let n = least(v.len(), dst.len() - from);
-    let mut i = 0;
-    while i < n {
-        dst[from + i] = v[i];
-        i += 1;
-    }
-    if n < v.len() {
-        return dst.len() + 1;
-    }
-    from + n
-}
-
-// v and w behind it, in the same way.
-pub fn fill_both(v: &[u8], w: &[u8], dst: &mut [u8], at: usize) -> usize
-    ensures { λ r. ⌜ Written (take at (now (dst .entry)) ++ (now (v .entry) ++ now (w .entry))) (now (dst .entry)) (now (dst .exit)) r ⌝ }
-{
-    let first = fill(v, dst, at);
-    if dst.len() < first {
-        return first;
-    }
-    fill(w, dst, first)
-}
 
 // Whether a variable stands at i, and is d.
 fn is_hit(src: &[u8], i: usize, d: usize) -> bool

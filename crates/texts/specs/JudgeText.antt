@@ -1,6 +1,7 @@
 -- The judge's line for an image, as a call: its answer and the lent buffers after it, from the image and the buffers before it. A buffer
 -- that the judge's work or the longest line does not fit in is refused whatever the image is, and both are left as they were.
-use mathlib.Core.Path.{_≡_, refl, sym, ap, _∙_}
+use mathlib.Core.Path.{_≡_, refl, sym, ap, _∙_, subst}
+use mathlib.Core.Logic.{_⊎_, inl, inr}
 use mathlib.Core.Bool.{Bool, true, false, _||_}
 use mathlib.Core.List.{List}
 use Prim.Native.Nat.{ℕ, _<_, _≤_}
@@ -14,11 +15,10 @@ use Rattle.paper.specs.Answers.{shortBuffer}
 use Rattle.paper.specs.Verdict.{Out, ok, refused}
 use Rattle.paper.specs.Calls.{laid, workBytes, zeroed}
 use Rattle.paper.specs.Texts.{judgeText}
+use Rattle.writing.specs.Written.{Written as Filled, written-room}
 use Rattle.texts.specs.declared.entry.Text.{Text}
 use Rattle.texts.specs.declared.entry.Text.the-variants.{Written, ShortBuffer}
 use Rattle.texts.specs.Lines.{line-length}
-use Rattle.texts.specs.Put.{put-laid}
-use Rattle.texts.specs.Judged.{Buffers, JudgeLine}
 
 pub record TextCall : Type 0 where
   pub says : Out ℕ
@@ -66,9 +66,9 @@ module _ (image work out : List ℕ) where
   unfolding judgeTextCall workBytes lineBytes
   short-out h = either (ltb (length work) 40960) h
 
-  pub long-both : Buffers work out → judgeTextCall image work out ≡ made
+  pub long-both : 40960 ≤ length work → 520 ≤ length out → judgeTextCall image work out ≡ made
   unfolding judgeTextCall workBytes lineBytes
-  long-both b = rw (le-ltb (length work) 40960 (b .for-work), le-ltb (length out) 520 (b .for-line))
+  long-both h k = rw (le-ltb (length work) 40960 h, le-ltb (length out) 520 k)
 
 -- ---- what the code leaves behind meets the statement
 
@@ -79,14 +79,14 @@ module _ (image work out : List ℕ) where
   pub text-short-out : length out < 520 → JudgeTexts image work out ShortBuffer work out
   text-short-out h = let c = short-out image work out h in record { says = cc; work = cc; out = cc }
 
-  pub text-written : {n end : ℕ} {work′ out′ : List ℕ} → Buffers work out → JudgeLine image work out n end work′ out′
+  pub text-written : {end : ℕ} {work′ out′ : List ℕ} → 40960 ≤ length work → 520 ≤ length out → work′ ≡ zeroed work → Filled (judgeText image) out out′ end
       → JudgeTexts image work out (Written end) work′ out′
-  text-written {end = end} b j =
-      let c = long-both image work out b in
+  text-written h k z w =
+      let c = long-both image work out h k in
       let m = line-length image in
-      let z : end ≡ length (judgeText image) = let f = j .line .end in omega arith in
-      let l = put-laid (let k = b .for-line in omega arith) (j .line) in
-      let w = j .cleared in
+      let f = written-room w (omega arith) in
+      let e = f .all in
+      let b = f .bytes in
       record { says = cc; work = cc; out = cc }
 
 -- ---- no second answer and no other buffers fit the statement
@@ -114,21 +114,55 @@ laid-shown text before after n f z =
     let k = ap length f ∙ length-append text (drop (length text) before) in
     record { inside = omega arith; line = rw f (take-at text (drop (length text) before) n z) }
 
-pub written : {image w o w′ o′ : List ℕ} {r : Text} {n : ℕ} → JudgeTexts image w o r w′ o′ → r ≡ Written n → Shown (judgeText image) n o′
-written {image} {w} {o} {w′} {o′} {r} {n} h e = by (ltb (length w) 40960) (ltb (length o) 520) refl refl
+-- the line was written: there was room for the judge's work, which is zeroed
+pub record Lined (image w o : List ℕ) (n : ℕ) (w′ o′ : List ℕ) : Type 0 where
+  pub for-work : 40960 ≤ length w
+  pub cleared : w′ ≡ zeroed w
+  pub all : n ≡ length (judgeText image)
+  pub bytes : o′ ≡ laid (judgeText image) o
+
+-- none was, and nothing has changed
+pub record Unlined (w o w′ o′ : List ℕ) : Type 0 where
+  pub why : (length w < 40960) ⊎ (length o < 520)
+  pub same-work : w′ ≡ w
+  pub same-out : o′ ≡ o
+
+pub data Either (image w o : List ℕ) (w′ o′ : List ℕ) : Text → Type 0 where
+  lined : {n : ℕ} → Lined image w o n w′ o′ → Either image w o w′ o′ (Written n)
+  unlined : Unlined w o w′ o′ → Either image w o w′ o′ ShortBuffer
+
+pub either-way : {image w o w′ o′ : List ℕ} {r : Text} → JudgeTexts image w o r w′ o′ → Either image w o w′ o′ r
+either-way {image} {w} {o} {w′} {o′} {r} h = by (ltb (length w) 40960) (ltb (length o) 520) refl refl
   where
-    says : ok n ≡ judgeTextCall image w o .says
-    says = ap said (sym e) ∙ h .says
+    short : judgeTextCall image w o ≡ still image w o → (length w < 40960) ⊎ (length o < 520) → Either image w o w′ o′ r
+    short c why =
+        let a = h .work in
+        let b = h .out in
+        let e = same-answer r ShortBuffer (h .says ∙ ap (λ (t : TextCall). t .says) c) in
+        rw e (unlined (record { why = why; same-work = cc; same-out = cc }))
 
-    never : judgeTextCall image w o ≡ still image w o → Shown (judgeText image) n o′
-    never c = let s = says in absurd (let z : _≡_ {A = ℕ} 0 1 = cc in omega arith)
-
-    by : (a b : Bool) → ltb (length w) 40960 ≡ a → ltb (length o) 520 ≡ b → Shown (judgeText image) n o′
-    by true b p q = never (short-work image w o (ltb-true (length w) 40960 p))
-    by false true p q = never (short-out image w o (ltb-true (length o) 520 q))
+    by : (a b : Bool) → ltb (length w) 40960 ≡ a → ltb (length o) 520 ≡ b → Either image w o w′ o′ r
+    by true b p q = let l = ltb-true (length w) 40960 p in short (short-work image w o l) (inl l)
+    by false true p q = let l = ltb-true (length o) 520 q in short (short-out image w o l) (inr l)
     by false false p q =
         let x = ltb-false (length w) 40960 p in
-        let y = ltb-false (length o) 520 q in
-        let c = long-both image w o (record { for-work = x; for-line = y }) in
-        let s = says in
-        laid-shown (judgeText image) o o′ n (h .out ∙ ap (λ (t : TextCall). t .out) c) (cc)
+        let c = long-both image w o x (ltb-false (length o) 520 q) in
+        let a = h .work in
+        let b = h .out in
+        let e = same-answer r (Written (length (judgeText image))) (h .says ∙ ap (λ (t : TextCall). t .says) c) in
+        rw e (lined (record { for-work = x; cleared = cc; all = refl; bytes = cc }))
+
+pub written-line : {image w o w′ o′ : List ℕ} {r : Text} {n : ℕ} → JudgeTexts image w o r w′ o′ → r ≡ Written n → Lined image w o n w′ o′
+written-line {image} {w} {o} {w′} {o′} h e = by (subst (Either image w o w′ o′) e (either-way h))
+  where
+    by : {n : ℕ} → Either image w o w′ o′ (Written n) → Lined image w o n w′ o′
+    by (lined l) = l
+
+pub no-line : {image w o w′ o′ : List ℕ} {r : Text} → JudgeTexts image w o r w′ o′ → r ≡ ShortBuffer → Unlined w o w′ o′
+no-line {image} {w} {o} {w′} {o′} h e = by (subst (Either image w o w′ o′) e (either-way h))
+  where
+    by : Either image w o w′ o′ ShortBuffer → Unlined w o w′ o′
+    by (unlined l) = l
+
+pub written : {image w o w′ o′ : List ℕ} {r : Text} {n : ℕ} → JudgeTexts image w o r w′ o′ → r ≡ Written n → Shown (judgeText image) n o′
+written {image} {o = o} {o′ = o′} {n = n} h e = let l = written-line h e in laid-shown (judgeText image) o o′ n (l .bytes) (sym (l .all))

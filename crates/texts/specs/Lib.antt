@@ -1,15 +1,3 @@
-pub mod Put
-pub mod Digits
 pub mod Lines
-pub mod Judged
 pub mod JudgeText
-pub mod Few
-pub mod Bench
-pub mod StepText
-pub mod Along
-pub mod RunText
-pub mod TrialText
-pub mod Input
-pub mod LoadText
-pub mod ImageText
 pub mod Enough

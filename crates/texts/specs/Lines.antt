@@ -1,4 +1,4 @@
--- The lines that begin with a word, as they are put together, and how long they get: the judge's at most 520 bytes, a type of 256 bytes in hex.
+-- The two forms of the judge's line, as they are put together, and how long they get: at most 520 bytes, a type of 256 bytes in hex.
 use mathlib.Core.Path.{_≡_, refl}
 use mathlib.Core.List.{List, [], _∷_, _++_, append-assoc}
 use Prim.Native.Nat.{ℕ, _≤_}
@@ -6,22 +6,16 @@ use native.Mathlib.Omega.{arith}
 use lib.ListN.{length, length-append}
 use Rattle.paper.specs.Types.{Ty, tyBytes}
 use Rattle.paper.specs.Verdict.{Out, ok, refused, verdict}
-use Rattle.paper.specs.Texts.{decimal, three, hex, accept, refuse, load, raceWord, judgeLine, judgeText}
+use Rattle.paper.specs.Texts.{decimal, hex, accept, refuse, judgeLine, judgeText}
 use Rattle.laws.specs.Verdicts.{refused-listed, refused-place}
 use Rattle.laws.specs.Sizes.{verdict-small}
-use Rattle.texts.specs.Digits.{ended, decimal-length, hex-length}
+use Rattle.writing.specs.Digits.{ended, decimal-length, hex-length}
 
 abbrev pub acceptLine : List ℕ → List ℕ
 acceptLine b = accept ++ (hex b ++ (0x0A ∷ []))
 
 abbrev pub refuseLine : ℕ → ℕ → List ℕ
 refuseLine n p = refuse ++ (ended n 0x20 ++ ended p 0x0A)
-
-abbrev pub loadLine : ℕ → List ℕ
-loadLine n = load ++ ended n 0x0A
-
-abbrev pub raceLine : ℕ → ℕ → ℕ → List ℕ
-raceLine i j c = raceWord ++ three i j c
 
 pub accept-line : (t : Ty) → judgeLine (ok t) ≡ acceptLine (tyBytes t)
 unfolding judgeLine

@@ -1,4 +1,7 @@
-use crate::judged::judge_line;
+use crate::lines::accept_line;
+use crate::lines::refuse_line;
+use judging::entry::Verdict;
+use judging::entry::judge;
 ghost use Rattle.texts.specs.JudgeText.{JudgeTexts};
 
 // What a function that writes a text answers: its length, or that a lent buffer is too short.
@@ -17,6 +20,15 @@ pub fn judge_text(image: &[u8], work: &mut [u8], out: &mut [u8]) -> Text
     if out.len() < 520 {
         return Text::ShortBuffer;
     }
-    let line = judge_line(image, work, out);
-    Text::Written(line.end)
+    let mut types = [0u8; 256];
+    match judge(image, &mut types, work) {
+        Verdict::Accepted(n) => {
+            let end = accept_line(&types[..n], out);
+            Text::Written(end)
+        }
+        Verdict::Refused(n, place) => {
+            let end = refuse_line(n, place, out);
+            Text::Written(end)
+        }
+    }
 }

@@ -8,7 +8,7 @@ use crate::reports::outcome_of;
 use crate::rows;
 use lines::digits::Number;
 use lines::digits::bytes;
-use texts::trial::trial_text;
+use trial_texts::trial::trial_text;
 
 // A text of this length stands first in expected. The bytes of the state and of the work are zero afterwards.
 fn tried_on(input: &[u8], length: usize, expected: &[u8]) -> Outcome {

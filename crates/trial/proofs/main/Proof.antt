@@ -1,7 +1,7 @@
 -- `main` meets its contract: the text that it writes lies within its buffer.
 use mathlib.Core.Path.{sym}
 use lib.Seq.{length-take-le}
-use Rattle.texts.specs.TrialText.{shown}
+use Rattle.trial_texts.specs.TrialText.{shown}
 use borrow.Author.Needs.{needs}
 use Rattle.trial.proofs.main.Statement.{statement}
 use Rattle.trial.proofs.main.Tie as tie

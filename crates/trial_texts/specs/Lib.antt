@@ -1,0 +1,13 @@
+pub mod Put
+pub mod Lines
+pub mod Few
+pub mod Bench
+pub mod StepText
+pub mod Along
+pub mod RunText
+pub mod Early
+pub mod TrialText
+pub mod Input
+pub mod LoadText
+pub mod ImageText
+pub mod Enough
