@@ -13,7 +13,6 @@ use lib.Seq.{paste-suc}
 use borrow.Author.Tests.{le-leb, lt-leb, leb-true, leb-false}
 use Rattle.paper.specs.Base.{choose}
 use Rattle.paper.specs.Calls.{laid}
-use Rattle.laws.specs.CallLaws.{laid-length}
 
 unfoldable pub roomFor : ℕ → ℕ → ℕ
 roomFor n m = choose (leb n m) (λ _. n) (λ _. m + 1)
@@ -39,8 +38,8 @@ pub record Fits (res before after : List ℕ) (r : ℕ) : Type 0 where
 
 module _ (res before : List ℕ) where
   over-fits : length res ≤ length before → over res before ≡ laid res before
-  unfolding over
-  over-fits h = take-all (length before) (laid res before) (omega (arith, laid-length res before h))
+  unfolding over laid
+  over-fits h = take-all (length before) (laid res before) (simp (length-append, length-drop) (omega arith))
 
   over-short : length before < length res → over res before ≡ take (length before) res
   unfolding over laid
@@ -118,7 +117,8 @@ stands-written {x} {before} s = record
     { says = s .next ∙ sym (room-fits x before (s .room)); bytes = s .bytes ∙ sym (over-fits x before (s .room)) }
 
 pub stands-length : {x before d : List ℕ} {n : ℕ} → Stands x before d n → length d ≡ length before
-stands-length {x} {before} s = ap length (s .bytes) ∙ laid-length x before (s .room)
+unfolding laid
+stands-length {x} {before} s = let h = s .room in ap length (s .bytes) ∙ simp (length-append, length-drop) (omega arith)
 
 -- v written behind x is x and v written
 pub written-behind : {x before d : List ℕ} {n : ℕ} → Stands x before d n → (v : List ℕ) {d′ : List ℕ} {r : ℕ}
