@@ -3,16 +3,21 @@ use mathlib.Core.Path.{_≡_, refl, sym, ap, _∙_, subst}
 use mathlib.Core.Bool.{Bool, true, false}
 use mathlib.Core.List.{List, _++_, append-assoc}
 use Prim.Native.Nat.{ℕ, _+_, _-_, _*_, _<_, _≤_}
+use native.Mathlib.Nat.{le-refl, le-trans, le-of-lt, add-le-add}
 use native.Mathlib.Omega.{arith}
+use lib.Dec.{lit<}
 use lib.ListN.{length, getD, take, drop}
 use lib.Seq.{drop-drop, drop-append-le}
 use borrow.Author.Tests.{le-leb}
+use mir.Syntax.{w64}
+use mir.Val.{Fits}
 use Rattle.paper.specs.Base.{at, word16}
 use Rattle.paper.specs.Terms.{Term, termBytes, value}
 use Rattle.paper.specs.States.{Card, State}
 use Rattle.paper.specs.Steps.{finished, move}
 use Rattle.paper.specs.Cases.{told}
 use Rattle.laws.specs.Values.{Value, v-unit, v-num, v-fun, v-lock, v-cell, is-value}
+use Rattle.laws.specs.StateBytes.{good-sound}
 use Rattle.plans.specs.Reads.{Filled, filled-from, threads-read, thread-read}
 use Rattle.plans.specs.Stepping.{step-nobody, step-finished}
 use Rattle.slots.specs.Codes.{isValue}
@@ -23,6 +28,7 @@ use Rattle.writing.specs.Written.{Written, roomFor}
 use Rattle.machine.specs.declared.step.Due.{Due}
 use Rattle.machine.specs.declared.step.Step.the-variants.{NoSuchThread, IsFinished}
 use Rattle.machine.specs.Means.{Part, part-bytes, part-cut, became}
+use Rattle.machine.specs.Places.{slot-within}
 use Rattle.machine.specs.DuePart.{Whole, Parted, due-part}
 use Rattle.machine.specs.Answering.{Held, Running, Answers}
 
@@ -42,16 +48,19 @@ all-of {res} {before} {r = r} w l h =
     let e : r ≡ length res = w .says ∙ rw (le-leb (length res) (length before) k) in
     (omega arith, became w .fits (omega arith) .0)
 
-module _ {card : Card} {state : List ℕ} (w : Held card state) {i : ℕ} where
-  pub held-nobody : at state 3 ≤ i → Answers card state i state NoSuchThread
+module _ {card : Card} {state : List ℕ} (w : Held card state) {i count : ℕ} (c : count ≡ at state 3) where
+  pub held-nobody : count ≤ i → Answers card state i state NoSuchThread
   unfolding told
   held-nobody h = record {
     says = step-nobody card (w .fits) state (w .held) (w .holds) i (omega (arith, threads-read card (w .fits) state (w .held) (w .holds)));
   }
 
-  module _ (h : i < at state 3) where
+  module _ (h : i < count) where
     here : i < length (w .held .threads)
     here = omega (arith, threads-read card (w .fits) state (w .held) (w .holds))
+
+    pub held-low : i < 256
+    held-low = omega (arith, here, good-sound card (w .held) (w .holds .state) .threads, w .fits .threads)
 
     abbrev thread : Term
     thread = getD (w .held .threads) i Term.unit
@@ -77,8 +86,14 @@ module _ {card : Card} {state : List ℕ} (w : Held card state) {i : ℕ} where
       size : n ≡ length (termBytes thread)
       size = e ∙ slot .says
 
-      pub held-few : n ≤ card .threadBytes
-      held-few = omega (arith, size, slot .fits)
+      few : n ≤ card .threadBytes
+      few = omega (arith, size, slot .fits)
+
+      within-slot : {k : ℕ} → k ≤ n → Fits w64 (256 + card .threadBytes * i + k)
+      within-slot l = slot-within (card .threadBytes) i (w .fits .threadBytes) held-low (lit< tt) (le-trans l few)
+
+      pub held-to : Fits w64 (256 + card .threadBytes * i + n)
+      held-to = within-slot (le-refl n)
 
       pub held-inside : 256 + card .threadBytes * i + n ≤ length state
       held-inside = omega (arith, size, slot .fits, slot .room)
@@ -99,8 +114,23 @@ module _ {card : Card} {state : List ℕ} (w : Held card state) {i : ℕ} where
         there : Part (termBytes thread) (d .from) (d .to) (found thread .redex)
         there = due-part thread (parted .from) (parted .to)
 
-        pub held-cut : (d .from ≤ d .to) × (d .to ≤ n)
-        held-cut = let c = part-cut there in (omega arith, omega (arith, size))
+        ends : d .to ≤ n
+        ends = let k = part-cut there in omega (arith, size)
+
+        starts : d .from ≤ d .to
+        starts = le-of-lt (part-cut there .some)
+
+        pub held-part-from : Fits w64 (256 + card .threadBytes * i + d .from)
+        held-part-from = within-slot (le-trans starts ends)
+
+        pub held-part-to : Fits w64 (256 + card .threadBytes * i + d .to)
+        held-part-to = within-slot ends
+
+        pub held-part : 256 + card .threadBytes * i + d .from ≤ 256 + card .threadBytes * i + d .to
+        held-part = add-le-add (le-refl (256 + card .threadBytes * i)) starts
+
+        pub held-part-inside : 256 + card .threadBytes * i + d .to ≤ length state
+        held-part-inside = le-trans (add-le-add (le-refl (256 + card .threadBytes * i)) ends) held-inside
 
         -- the part, where it stands in the buffer
         within : Part state (256 + card .threadBytes * i + d .from) (256 + card .threadBytes * i + d .to) (found thread .redex)
@@ -110,7 +140,7 @@ module _ {card : Card} {state : List ℕ} (w : Held card state) {i : ℕ} where
             record {
               rest = there .rest ++ rest;
               from = sym (drop-drop (d .from) a state) ∙ ap (drop (d .from)) (filled-from slot)
-                  ∙ drop-append-le (d .from) (termBytes thread) rest (let c = part-cut there in omega arith)
+                  ∙ drop-append-le (d .from) (termBytes thread) rest (let k = part-cut there in omega arith)
                   ∙ ap (λ z. z ++ rest) (there .from) ∙ append-assoc (termBytes (found thread .redex)) (there .rest) rest;
               to = omega (arith, there .to);
             }
@@ -121,8 +151,8 @@ module _ {card : Card} {state : List ℕ} (w : Held card state) {i : ℕ} where
           y : Written (termBytes (found thread .redex)) before old r
           y = subst (λ b. Written b before old r) (part-bytes within) x
 
-          pub held-all : r ≤ 2048
-          held-all = all-of y l (let c = part-cut there in let t = there .to in let s = w .short in omega (arith, slot .fits)) .0
+          pub held-all : length old ≡ length before → r ≤ length old
+          held-all k = let all = all-of y l (let p = part-cut there in let t = there .to in let s = w .short in omega (arith, slot .fits)) .0 in omega arith
 
           pub held-running : {v : Bool} {out stack : List ℕ} → v ≡ isValue (getD state (256 + card .threadBytes * i) 0) → v ≡ false
               → length out ≡ 2048 → length stack ≡ 4096 → Running card state i d (take r old) out stack
@@ -133,7 +163,7 @@ module _ {card : Card} {state : List ℕ} (w : Held card state) {i : ℕ} where
                 here = here;
                 going = value-is v ∙ e;
                 parted = parted;
-                bytes = all-of y l (let c = part-cut there in let t = there .to in omega (arith, slot .fits)) .1;
+                bytes = all-of y l (let k = part-cut there in let t = there .to in omega (arith, slot .fits)) .1;
                 room = omega arith;
                 deep = omega arith;
               }

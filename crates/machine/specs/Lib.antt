@@ -1,4 +1,5 @@
 -- ---- what the code's answers mean
+pub mod Places
 pub mod Means
 pub mod Kinds
 -- ---- the kinds of step

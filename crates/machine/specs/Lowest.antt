@@ -64,8 +64,9 @@ seeking-start {card} {before} h = record {
   rest = λ w. ap (firstOf card (w .held) 0) (omega (arith, threads-read card (w .fits) before (w .held) (w .holds)));
 }
 
-module _ {card : Card} {before : List ℕ} {i : ℕ} {state : List ℕ} (s : Seeking card before i state) where
-  pub seeking-none : at before 3 ≤ i → StepsLowest card before state false
+module _ {card : Card} {before : List ℕ} {i : ℕ} {state : List ℕ} (s : Seeking card before i state)
+    {count : ℕ} (c : count ≡ at before 3) where
+  pub seeking-none : count ≤ i → StepsLowest card before state false
   unfolding firstOf
   seeking-none h = record {
     does = λ w. subst (Lowest card before state false)
@@ -73,7 +74,7 @@ module _ {card : Card} {before : List ℕ} {i : ℕ} {state : List ℕ} (s : See
         (none-can (s .same));
   }
 
-  module _ (h : i < at before 3) {after : List ℕ} {a : ℕ} (y : Called card state i after a) where
+  module _ (h : i < count) {after : List ℕ} {a : ℕ} (y : Called card state i after a) where
     x : Called card before i after a
     x = subst (λ b. Called card b i after a) (s .same) y
 

@@ -3,7 +3,6 @@ use mathlib.Core.Path.{_≡_, refl, ap, _∙_, subst}
 use mathlib.Core.Bool.{Bool, true, false}
 use mathlib.Core.List.{List, _++_}
 use Prim.Native.Nat.{ℕ, _+_, _-_, _*_, _<_, _≤_}
-use native.Mathlib.Nat.{mul-le-mul}
 use native.Mathlib.Omega.{arith}
 use lib.Dec.{leb}
 use lib.ListN.{length, take, drop, length-append, length-drop}
@@ -48,12 +47,6 @@ pub record Short (s stack : List ℕ) : Type 0 where
 pub record Sized (from size : ℕ) : Type 0 where
   pub low : from < 16777216
   pub small : size < 65536
-
-pub slot-low : (size j : ℕ) → size < 65536 → j < 256 → size * j < 16777216
-slot-low size j h k =
-    let l : size ≤ 65535 = omega arith in
-    let m : j ≤ 255 = omega arith in
-    omega (arith, mul-le-mul l m)
 
 -- the term v stands from a up to b
 pub record Part (s : List ℕ) (a b : ℕ) (v : Term) : Type 0 where

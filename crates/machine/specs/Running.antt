@@ -112,6 +112,9 @@ module _ {card : Card} {state : List ℕ} {i : ℕ} {d : Due} {s buffer stack : 
   pub thread-fits : d .used ≤ card .threadBytes
   thread-fits = omega (arith, used, slot .fits)
 
+  pub part-rest : d .used - length s ≤ card .threadBytes
+  part-rest = omega (arith, thread-fits)
+
   pub part-short : Short s stack
   part-short = record { long = omega (arith, part-fits, thread-fits, w .deep) }
 
@@ -235,15 +238,18 @@ module _ {card : Card} {state : List ℕ} {i : ℕ} {d : Due} {s buffer stack : 
           { held = S; holds = holds; change = on .change; means = on .changes; named = named; thread = omega (arith, part-fits, thread-fits) }
 
       module _ (l : m ≤ card .threadBytes - (d .used - length s)) where
-        pub run-room : m ≤ length buffer
-        run-room = let o = w .room in omega arith
+        room : m ≤ length buffer
+        room = let o = w .room in omega arith
+
+        pub run-room : length out ≡ length buffer → m ≤ length out
+        run-room e = subst (λ k. m ≤ k) (sym e) room
 
         pub run-made : {between left : List ℕ} → length between ≡ length state → Alters card s also state between
             → Exchanges (256 + card .threadBytes * i) (d .used) (38 + 2 * i) (d .from) (d .to) (take m out) between left
             → Answers card state i left (Made k n)
         unfolding told thread after
         run-made {between} {left} kept alters x =
-            let b = became .fits run-room in
+            let b = became .fits room in
             let base = 256 + card .threadBytes * i in
             let changes = alters .does S holds (on .change) (on .changes) named (omega (arith, part-fits, thread-fits)) in
             let was : take (d .used) (drop base between) ≡ termBytes thread =

@@ -7,19 +7,27 @@ step-held-requires : tie.Need-step-held-requires
 step-held-requires c κs = search needs
 
 answer-of-requires : tie.Need-answer-of-requires
-answer-of-requires c κs = search needs
+answer-of-requires c κs = tt
 
 same-length : tie.Need-same-length
-same-length c = search needs
+same-length c =
+    let at-step-held = c .before .before .before .before .before .before .before .before .before in
+    at-step-held .step-held .kept .0
 
 same-length-2 : tie.Need-same-length-2
-same-length-2 c = search needs
+same-length-2 c =
+    let at-step-held = c .before .before .before .before .before .before .before .before .before in
+    at-step-held .step-held .kept .1 .1 .1 .0
 
 same-length-3 : tie.Need-same-length-3
-same-length-3 c = search needs
+same-length-3 c =
+    let at-step-held = c .before .before .before .before .before .before .before .before .before in
+    at-step-held .step-held .kept .1 .1 .1 .1 .0
 
 same-length-4 : tie.Need-same-length-4
-same-length-4 c = search needs
+same-length-4 c =
+    let at-step-held = c .before .before .before .before .before .before .before .before .before in
+    at-step-held .step-held .kept .1 .1 .1 .1 .1 .0
 
 returns : tie.Need-returns
 returns c =

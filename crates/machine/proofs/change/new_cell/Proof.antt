@@ -1,5 +1,5 @@
 -- The count that was read is the state's.
-use mathlib.Core.Path.{subst}
+use mathlib.Core.Path.{subst, _∙_}
 use Prim.Native.Nat.{_+_}
 use borrow.Author.Needs.{needs}
 use Rattle.plans.specs.Store.{Puts}
@@ -9,7 +9,7 @@ use Rattle.machine.proofs.change.new_cell.Statement.{statement}
 use Rattle.machine.proofs.change.new_cell.Tie as tie
 
 byte-at-requires : tie.Need-byte-at-requires
-byte-at-requires c κs = search needs
+byte-at-requires c κs = tt
 
 cast-set-cell : tie.Need-cast-set-cell
 cast-set-cell c = search needs
@@ -21,10 +21,13 @@ add-put-byte : tie.Need-add-put-byte
 add-put-byte c = search needs
 
 put-byte-requires : tie.Need-put-byte-requires
-put-byte-requires c κs = search needs
+put-byte-requires c κs = tt
 
 same-length : tie.Need-same-length
-same-length c = search needs
+same-length c =
+    let at-put-byte = c .before .before in
+    let at-set-cell = c .before .before .before .before .before .before in
+    at-put-byte .put-byte .kept .0 ∙ at-set-cell .set-cell .kept .0
 
 returns : tie.Need-returns
 returns c =

@@ -1,45 +1,51 @@
 -- A slot's place is a number of the machine.
-use native.Mathlib.Omega.{arith}
-use borrow.Author.Needs.{needs}
-use Rattle.paper.specs.States.{total}
-use Rattle.machine.specs.Means.{slot-low}
+use lib.Dec.{lit<}
+use Rattle.machine.specs.Places.{slot-fits, slot-from, pair-fits, pair-from, cells-low, threads-fit, cells-fit}
 use Rattle.machine.proofs.change.set_cell.Statement.{statement}
 use Rattle.machine.proofs.change.set_cell.Tie as tie
 
 mul-from : tie.Need-mul-from
-unfolding total
-mul-from c = let z = c .before .before .before .pre .0 .size in omega arith
+mul-from c =
+    let at-start = c .before .before .before in
+    threads-fit (at-start .pre .0)
 
 add-from : tie.Need-add-from
-unfolding total
-add-from c = let z = c .before .before .before .pre .0 .size in omega arith
+add-from c =
+    let at-start = c .before .before .before in
+    cells-fit (at-start .pre .0)
 
 mul-store : tie.Need-mul-store
-unfolding total
 mul-store c =
     let at-start = c .before .before .before .before in
-    let z = at-start .pre .0 .size in omega (arith, slot-low (at-start .args .card .«cell_bytes») (at-start .args .j) (at-start .pre .0 .cellBytes) (at-start .pre .1))
+    slot-fits (at-start .args .card .«cell_bytes») (at-start .args .j) (at-start .pre .0 .cellBytes) (at-start .pre .1)
 
 add-store : tie.Need-add-store
-unfolding total
 add-store c =
     let at-start = c .before .before .before .before in
-    let z = at-start .pre .0 .size in omega (arith, slot-low (at-start .args .card .«cell_bytes») (at-start .args .j) (at-start .pre .0 .cellBytes) (at-start .pre .1))
+    slot-from (at-start .args .card .«cell_bytes») (at-start .args .j) (at-start .pre .0 .cellBytes) (at-start .pre .1) (cells-low (at-start .pre .0))
 
 mul-store-2 : tie.Need-mul-store-2
-mul-store-2 c = search needs
+mul-store-2 c =
+    let at-start = c .before .before .before .before in
+    pair-fits (at-start .pre .1)
 
 add-store-2 : tie.Need-add-store-2
-add-store-2 c = search needs
+add-store-2 c =
+    let at-start = c .before .before .before .before in
+    pair-from (lit< tt) (at-start .pre .1)
 
 store-requires : tie.Need-store-requires
-store-requires c κs = search needs
+store-requires c κs = tt
 
 same-length : tie.Need-same-length
-same-length c = search needs
+same-length c =
+    let at-store = c .before .before in
+    at-store .store .kept .0
 
 returns : tie.Need-returns
-returns c = search needs
+returns c =
+    let at-store = c .before .before in
+    at-store .store .ensures
 
 pub set-cell-spec : {M : Type 1} → statement M
 set-cell-spec =

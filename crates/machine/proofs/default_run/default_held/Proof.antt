@@ -1,11 +1,12 @@
 -- `Going`, step after step.
+use mathlib.Core.Path.{sym, _∙_}
 use Prim.Native.Nat.{_-_}
 use borrow.Author.Tests.{not-true, not-false}
 use Rattle.machine.specs.Acting.{cardOf}
 use Rattle.machine.specs.DefaultCalls.{Going, going-start, going-on, going-stops, going-ends}
-use native.Mathlib.Omega.{arith}
 use Rattle.machine.specs.Answering.{Scratch, scratch-kept}
 use borrow.Author.Needs.{needs}
+use Rattle.machine.specs.Places.{nearer}
 use Rattle.machine.proofs.default_run.default_held.Statement.{statement}
 use Rattle.machine.proofs.default_run.default_held.Tie as tie
 
@@ -26,28 +27,31 @@ step-lowest-requires c κs =
     (at-loop .loop .inv .0 .held, at-loop .loop .inv .1)
 
 same-length : tie.Need-same-length Inv-loop μ-loop
-same-length c = search needs
+same-length c =
+    let at-step-lowest = c .before .before .before .before .before .before .before .before .before in
+    let at-loop = c .before .before .before .before .before .before .before .before .before .before .before .before .before .before .before in
+    at-step-lowest .step-lowest .kept .0 ∙ at-loop .loop .inv .0 .kept
 
 same-length-2 : tie.Need-same-length-2 Inv-loop μ-loop
 same-length-2 c =
     let at-step-lowest = c .before .before .before .before .before .before .before .before .before in
     let at-loop = c .before .before .before .before .before .before .before .before .before .before .before .before .before .before .before in
     let at-start = c .before .before .before .before .before .before .before .before .before .before .before .before .before .before .before .before .before .before .before .before in
-    omega (arith, at-step-lowest .step-lowest .kept .1 .1 .0, at-loop .loop .inv .1 .copy, at-start .pre .1 .copy)
+    at-step-lowest .step-lowest .kept .1 .1 .0 ∙ at-loop .loop .inv .1 .copy ∙ sym (at-start .pre .1 .copy)
 
 same-length-3 : tie.Need-same-length-3 Inv-loop μ-loop
 same-length-3 c =
     let at-step-lowest = c .before .before .before .before .before .before .before .before .before in
     let at-loop = c .before .before .before .before .before .before .before .before .before .before .before .before .before .before .before in
     let at-start = c .before .before .before .before .before .before .before .before .before .before .before .before .before .before .before .before .before .before .before .before in
-    omega (arith, at-step-lowest .step-lowest .kept .1 .1 .1 .0, at-loop .loop .inv .1 .after, at-start .pre .1 .after)
+    at-step-lowest .step-lowest .kept .1 .1 .1 .0 ∙ at-loop .loop .inv .1 .after ∙ sym (at-start .pre .1 .after)
 
 same-length-4 : tie.Need-same-length-4 Inv-loop μ-loop
 same-length-4 c =
     let at-step-lowest = c .before .before .before .before .before .before .before .before .before in
     let at-loop = c .before .before .before .before .before .before .before .before .before .before .before .before .before .before .before in
     let at-start = c .before .before .before .before .before .before .before .before .before .before .before .before .before .before .before .before .before .before .before .before in
-    omega (arith, at-step-lowest .step-lowest .kept .1 .1 .1 .1 .0, at-loop .loop .inv .1 .deep, at-start .pre .1 .deep)
+    at-step-lowest .step-lowest .kept .1 .1 .1 .1 .0 ∙ at-loop .loop .inv .1 .deep ∙ sym (at-start .pre .1 .deep)
 
 returns : tie.Need-returns Inv-loop μ-loop
 returns c =
@@ -61,7 +65,9 @@ add-steps : tie.Need-add-steps Inv-loop μ-loop
 add-steps c = search needs
 
 loop-less : tie.Need-loop-less Inv-loop μ-loop
-loop-less c = search needs
+loop-less c =
+    let at-loop-test = c .before .before .before .before .before .before .before .before .before .before .before .before .before .before in
+    nearer (at-loop-test .loop-test .taken)
 
 loop-again : tie.Need-loop-again Inv-loop μ-loop
 loop-again c =
@@ -74,25 +80,27 @@ loop-again c =
     )
 
 same-length-5 : tie.Need-same-length-5 Inv-loop μ-loop
-same-length-5 c = search needs
+same-length-5 c =
+    let at-loop = c .before in
+    at-loop .loop .inv .0 .kept
 
 same-length-6 : tie.Need-same-length-6 Inv-loop μ-loop
 same-length-6 c =
     let at-loop = c .before in
     let at-start = c .before .before .before .before .before .before in
-    omega (arith, at-loop .loop .inv .1 .copy, at-start .pre .1 .copy)
+    at-loop .loop .inv .1 .copy ∙ sym (at-start .pre .1 .copy)
 
 same-length-7 : tie.Need-same-length-7 Inv-loop μ-loop
 same-length-7 c =
     let at-loop = c .before in
     let at-start = c .before .before .before .before .before .before in
-    omega (arith, at-loop .loop .inv .1 .after, at-start .pre .1 .after)
+    at-loop .loop .inv .1 .after ∙ sym (at-start .pre .1 .after)
 
 same-length-8 : tie.Need-same-length-8 Inv-loop μ-loop
 same-length-8 c =
     let at-loop = c .before in
     let at-start = c .before .before .before .before .before .before in
-    omega (arith, at-loop .loop .inv .1 .deep, at-start .pre .1 .deep)
+    at-loop .loop .inv .1 .deep ∙ sym (at-start .pre .1 .deep)
 
 returns-2 : tie.Need-returns-2 Inv-loop μ-loop
 returns-2 c =

@@ -4,7 +4,6 @@ use borrow.Author.Tests.{not-true, not-false}
 use Rattle.paper.specs.States.{sixteen}
 use Rattle.machine.specs.Public.{state-held}
 use Rattle.machine.specs.DefaultCalls.{default-runs-short, default-runs-foreign}
-use borrow.Author.Needs.{needs}
 use Rattle.machine.proofs.default_run.default_run.Statement.{statement}
 use Rattle.machine.proofs.default_run.default_run.Tie as tie
 
@@ -15,10 +14,10 @@ returns c =
     default-runs-short (at-start .args .state .now) (at-start .args .limit) (at-if1 .if1 .taken)
 
 is-state-requires : tie.Need-is-state-requires
-is-state-requires c κs = search needs
+is-state-requires c κs = tt
 
 same-length : tie.Need-same-length
-same-length c = search needs
+same-length c = refl
 
 returns-2 : tie.Need-returns-2
 returns-2 c =
@@ -29,13 +28,13 @@ returns-2 c =
     default-runs-foreign (at-start .args .state .now) (at-start .args .limit) (at-if1 .if1 .left) (sym (at-is-state .is-state .ensures .says) ∙ not-true _ (at-if2 .if2 .taken))
 
 slice-aggregate-default-held : tie.Need-slice-aggregate-default-held
-slice-aggregate-default-held c = search needs
+slice-aggregate-default-held c = refl
 
 slice-aggregate-default-held-2 : tie.Need-slice-aggregate-default-held-2
-slice-aggregate-default-held-2 c = search needs
+slice-aggregate-default-held-2 c = refl
 
 slice-aggregate-default-held-3 : tie.Need-slice-aggregate-default-held-3
-slice-aggregate-default-held-3 c = search needs
+slice-aggregate-default-held-3 c = refl
 
 default-held-requires : tie.Need-default-held-requires
 unfolding sixteen
@@ -46,7 +45,9 @@ default-held-requires c κs =
     (state-held (at-start .args .state .now) (sym (at-is-state .is-state .ensures .says) ∙ not-false _ (at-if2 .if2 .left)), record { copy = refl; after = refl; deep = refl })
 
 same-length-2 : tie.Need-same-length-2
-same-length-2 c = search needs
+same-length-2 c =
+    let at-default-held = c .before .before .before .before .before in
+    at-default-held .default-held .kept .0
 
 returns-3 : tie.Need-returns-3
 unfolding sixteen

@@ -1,12 +1,11 @@
 -- `Seeking`, thread after thread.
-use mathlib.Core.Path.{ap, _∙_}
+use mathlib.Core.Path.{ap, _∙_, sym}
 use Prim.Native.Nat.{_-_}
-use native.Mathlib.Omega.{arith}
 use lib.ListN.{length}
 use Rattle.machine.specs.Acting.{cardOf}
 use Rattle.machine.specs.Lowest.{Seeking, seeking-start, seeking-on, seeking-made, seeking-none}
 use Rattle.machine.specs.Answering.{Scratch, scratch-kept}
-use borrow.Author.Needs.{needs}
+use Rattle.machine.specs.Places.{byte-fits, next-fits, nearer}
 use Rattle.machine.proofs.default_run.step_lowest.Statement.{statement}
 use Rattle.machine.proofs.default_run.step_lowest.Tie as tie
 
@@ -17,10 +16,12 @@ abbrev μ-loop : tie.MeasureT-loop
 μ-loop state₀ card old₀ out₀ stack₀ count i₀ state old out stack i = count - i
 
 byte-at-requires : tie.Need-byte-at-requires Inv-loop μ-loop
-byte-at-requires c κs = search needs
+byte-at-requires c κs = tt
 
 cast-count : tie.Need-cast-count Inv-loop μ-loop
-cast-count c = search needs
+cast-count c =
+    let at-byte-at = c in
+    byte-fits (at-byte-at .byte-at .ok)
 
 loop-holds : tie.Need-loop-holds Inv-loop μ-loop
 loop-holds c =
@@ -43,21 +44,21 @@ same-length-2 c =
     let at-call = c .before .before .before .before .before .before .before .before .before in
     let at-loop = c .before .before .before .before .before .before .before .before .before .before .before .before .before .before .before in
     let at-start = c .before .before .before .before .before .before .before .before .before .before .before .before .before .before .before .before .before .before .before .before .before .before in
-    omega (arith, at-call .call .kept .1 .1 .1 .0, at-loop .loop .inv .1 .copy, at-start .pre .1 .copy)
+    at-call .call .kept .1 .1 .1 .0 ∙ at-loop .loop .inv .1 .copy ∙ sym (at-start .pre .1 .copy)
 
 same-length-3 : tie.Need-same-length-3 Inv-loop μ-loop
 same-length-3 c =
     let at-call = c .before .before .before .before .before .before .before .before .before in
     let at-loop = c .before .before .before .before .before .before .before .before .before .before .before .before .before .before .before in
     let at-start = c .before .before .before .before .before .before .before .before .before .before .before .before .before .before .before .before .before .before .before .before .before .before in
-    omega (arith, at-call .call .kept .1 .1 .1 .1 .0, at-loop .loop .inv .1 .after, at-start .pre .1 .after)
+    at-call .call .kept .1 .1 .1 .1 .0 ∙ at-loop .loop .inv .1 .after ∙ sym (at-start .pre .1 .after)
 
 same-length-4 : tie.Need-same-length-4 Inv-loop μ-loop
 same-length-4 c =
     let at-call = c .before .before .before .before .before .before .before .before .before in
     let at-loop = c .before .before .before .before .before .before .before .before .before .before .before .before .before .before .before in
     let at-start = c .before .before .before .before .before .before .before .before .before .before .before .before .before .before .before .before .before .before .before .before .before .before in
-    omega (arith, at-call .call .kept .1 .1 .1 .1 .1 .0, at-loop .loop .inv .1 .deep, at-start .pre .1 .deep)
+    at-call .call .kept .1 .1 .1 .1 .1 .0 ∙ at-loop .loop .inv .1 .deep ∙ sym (at-start .pre .1 .deep)
 
 returns : tie.Need-returns Inv-loop μ-loop
 returns c =
@@ -66,13 +67,18 @@ returns c =
     let at-loop-test = c .before .before .before .before .before .before .before .before .before .before .before .before .before .before in
     let at-loop = c .before .before .before .before .before .before .before .before .before .before .before .before .before .before .before in
     let at-byte-at = c .before .before .before .before .before .before .before .before .before .before .before .before .before .before .before .before in
-    seeking-made (at-loop .loop .inv .0) (omega (arith, at-byte-at .byte-at .ensures, at-loop-test .loop-test .taken)) (at-call .call .ensures) (at-if1 .if1 .taken)
+    seeking-made (at-loop .loop .inv .0) (at-byte-at .byte-at .ensures) (at-loop-test .loop-test .taken) (at-call .call .ensures) (at-if1 .if1 .taken)
 
 add-i : tie.Need-add-i Inv-loop μ-loop
-add-i c = search needs
+add-i c =
+    let at-loop-test = c .before .before .before .before .before .before .before .before .before .before .before .before .before .before in
+    let at-byte-at = c .before .before .before .before .before .before .before .before .before .before .before .before .before .before .before .before in
+    next-fits (at-loop-test .loop-test .taken) (byte-fits (at-byte-at .byte-at .ok))
 
 loop-less : tie.Need-loop-less Inv-loop μ-loop
-loop-less c = search needs
+loop-less c =
+    let at-loop-test = c .before .before .before .before .before .before .before .before .before .before .before .before .before .before in
+    nearer (at-loop-test .loop-test .taken)
 
 loop-again : tie.Need-loop-again Inv-loop μ-loop
 loop-again c =
@@ -81,37 +87,39 @@ loop-again c =
     let at-loop-test = c .before .before .before .before .before .before .before .before .before .before .before .before .before .before in
     let at-loop = c .before .before .before .before .before .before .before .before .before .before .before .before .before .before .before in
     let at-byte-at = c .before .before .before .before .before .before .before .before .before .before .before .before .before .before .before .before in (
-      seeking-on (at-loop .loop .inv .0) (omega (arith, at-byte-at .byte-at .ensures, at-loop-test .loop-test .taken)) (at-call .call .ensures) (at-if1 .if1 .left),
+      seeking-on (at-loop .loop .inv .0) (at-byte-at .byte-at .ensures) (at-loop-test .loop-test .taken) (at-call .call .ensures) (at-if1 .if1 .left),
       scratch-kept (at-loop .loop .inv .1) (at-call .call .kept .1 .1 .1 .0) (at-call .call .kept .1 .1 .1 .1 .0) (at-call .call .kept .1 .1 .1 .1 .1 .0),
     )
 
 same-length-5 : tie.Need-same-length-5 Inv-loop μ-loop
-same-length-5 c = search needs
+same-length-5 c =
+    let at-loop = c .before in
+    ap length (at-loop .loop .inv .0 .same)
 
 same-length-6 : tie.Need-same-length-6 Inv-loop μ-loop
 same-length-6 c =
     let at-loop = c .before in
     let at-start = c .before .before .before .before .before .before .before .before in
-    omega (arith, at-loop .loop .inv .1 .copy, at-start .pre .1 .copy)
+    at-loop .loop .inv .1 .copy ∙ sym (at-start .pre .1 .copy)
 
 same-length-7 : tie.Need-same-length-7 Inv-loop μ-loop
 same-length-7 c =
     let at-loop = c .before in
     let at-start = c .before .before .before .before .before .before .before .before in
-    omega (arith, at-loop .loop .inv .1 .after, at-start .pre .1 .after)
+    at-loop .loop .inv .1 .after ∙ sym (at-start .pre .1 .after)
 
 same-length-8 : tie.Need-same-length-8 Inv-loop μ-loop
 same-length-8 c =
     let at-loop = c .before in
     let at-start = c .before .before .before .before .before .before .before .before in
-    omega (arith, at-loop .loop .inv .1 .deep, at-start .pre .1 .deep)
+    at-loop .loop .inv .1 .deep ∙ sym (at-start .pre .1 .deep)
 
 returns-2 : tie.Need-returns-2 Inv-loop μ-loop
 returns-2 c =
     let at-loop-test = c in
     let at-loop = c .before in
     let at-byte-at = c .before .before in
-    seeking-none (at-loop .loop .inv .0) (omega (arith, at-byte-at .byte-at .ensures, at-loop-test .loop-test .left))
+    seeking-none (at-loop .loop .inv .0) (at-byte-at .byte-at .ensures) (at-loop-test .loop-test .left)
 
 pub step-lowest-spec : {M : Type 1} → statement M
 step-lowest-spec =

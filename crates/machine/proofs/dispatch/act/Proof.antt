@@ -1,20 +1,20 @@
 -- One law of `Acting` a code; where the parts stand is said by `Cutting`.
-use native.Mathlib.Omega.{arith}
-use borrow.Author.Needs.{needs}
-use Rattle.paper.specs.States.{total}
 use Rattle.machine.specs.Means.{part-cut}
 use Rattle.machine.specs.Cutting.{of-cell, of-read, of-newlock, of-app, of-write, of-sync, of-bind, of-add, one-cut, two-cut, seq-cut, cond-cut, section-cut}
 use Rattle.machine.specs.Acting.{acts-app, acts-cell, acts-read, acts-write, acts-fork, acts-newlock, acts-sync, acts-bind, acts-seq, acts-add, acts-cond, acts-release, acts-else}
+use Rattle.machine.specs.Places.{cells-low, threads-fit, cells-fit}
 use Rattle.machine.proofs.dispatch.act.Statement.{statement}
 use Rattle.machine.proofs.dispatch.act.Tie as tie
 
 shared-slice-read-c : tie.Need-shared-slice-read-c
 shared-slice-read-c c =
     let at-start = c .before .before .before .before .before in
-    let k = part-cut (at-start .pre .0 .there) in omega arith
+    part-cut (at-start .pre .0 .there) .some
 
 second-from-requires : tie.Need-second-from-requires
-second-from-requires c κs = search needs
+second-from-requires c κs =
+    let at-start = c .before .before .before .before .before .before in
+    at-start .pre .0 .second
 
 apply-requires : tie.Need-apply-requires
 apply-requires c κs =
@@ -24,7 +24,7 @@ apply-requires c κs =
     (two-cut (at-start .pre .0) of-app (at-match .match .keys1) (at-second-from .second-from .ensures), at-start .pre .1 .0)
 
 byte-at-requires : tie.Need-byte-at-requires
-byte-at-requires c κs = search needs
+byte-at-requires c κs = tt
 
 make-cell-requires : tie.Need-make-cell-requires
 make-cell-requires c κs =
@@ -33,26 +33,25 @@ make-cell-requires c κs =
     one-cut (at-start .pre .0) of-cell (at-match .match .keys2)
 
 mul-from : tie.Need-mul-from
-unfolding total
 mul-from c =
     let at-start = c .before .before .before .before .before .before .before in
-    let z = at-start .pre .1 .1 .size in omega arith
+    threads-fit (at-start .pre .1 .1)
 
 add-from : tie.Need-add-from
-unfolding total
 add-from c =
     let at-start = c .before .before .before .before .before .before .before in
-    let z = at-start .pre .1 .1 .size in omega arith
+    cells-fit (at-start .pre .1 .1)
 
 read-requires : tie.Need-read-requires
-unfolding total
 read-requires c κs =
     let at-match = c .before .before in
     let at-start = c .before .before .before .before .before .before .before .before in
-    let z = at-start .pre .1 .1 .size in (one-cut (at-start .pre .0) of-read (at-match .match .keys3), record { low = omega arith; small = at-start .pre .1 .1 .cellBytes })
+    (one-cut (at-start .pre .0) of-read (at-match .match .keys3), record { low = cells-low (at-start .pre .1 .1); small = at-start .pre .1 .1 .cellBytes })
 
 second-from-requires-2 : tie.Need-second-from-requires-2
-second-from-requires-2 c κs = search needs
+second-from-requires-2 c κs =
+    let at-start = c .before .before .before .before .before .before in
+    at-start .pre .0 .second
 
 write-requires : tie.Need-write-requires
 write-requires c κs =
@@ -62,13 +61,13 @@ write-requires c κs =
     two-cut (at-start .pre .0) of-write (at-match .match .keys4) (at-second-from2 .second-from2 .ensures)
 
 byte-at-requires-2 : tie.Need-byte-at-requires-2
-byte-at-requires-2 c κs = search needs
+byte-at-requires-2 c κs = tt
 
 fork-requires : tie.Need-fork-requires
-fork-requires c κs = search needs
+fork-requires c κs = tt
 
 byte-at-requires-3 : tie.Need-byte-at-requires-3
-byte-at-requires-3 c κs = search needs
+byte-at-requires-3 c κs = tt
 
 make-lock-requires : tie.Need-make-lock-requires
 make-lock-requires c κs =
@@ -77,7 +76,9 @@ make-lock-requires c κs =
     (one-cut (at-start .pre .0) of-newlock (at-match .match .keys6), at-start .pre .1 .0)
 
 second-from-requires-3 : tie.Need-second-from-requires-3
-second-from-requires-3 c κs = search needs
+second-from-requires-3 c κs =
+    let at-start = c .before .before .before .before .before .before in
+    at-start .pre .0 .second
 
 take-requires : tie.Need-take-requires
 take-requires c κs =
@@ -87,7 +88,9 @@ take-requires c κs =
     two-cut (at-start .pre .0) of-sync (at-match .match .keys7) (at-second-from3 .second-from3 .ensures)
 
 second-from-requires-4 : tie.Need-second-from-requires-4
-second-from-requires-4 c κs = search needs
+second-from-requires-4 c κs =
+    let at-start = c .before .before .before .before .before .before in
+    at-start .pre .0 .second
 
 bind-requires : tie.Need-bind-requires
 bind-requires c κs =
@@ -97,7 +100,9 @@ bind-requires c κs =
     (two-cut (at-start .pre .0) of-bind (at-match .match .keys8) (at-second-from4 .second-from4 .ensures), at-start .pre .1 .0)
 
 second-from-requires-5 : tie.Need-second-from-requires-5
-second-from-requires-5 c κs = search needs
+second-from-requires-5 c κs =
+    let at-start = c .before .before .before .before .before .before in
+    at-start .pre .0 .second
 
 went-on-requires : tie.Need-went-on-requires
 went-on-requires c κs =
@@ -107,7 +112,9 @@ went-on-requires c κs =
     seq-cut (at-start .pre .0) (at-match .match .keys9) (at-second-from5 .second-from5 .ensures)
 
 second-from-requires-6 : tie.Need-second-from-requires-6
-second-from-requires-6 c κs = search needs
+second-from-requires-6 c κs =
+    let at-start = c .before .before .before .before .before .before in
+    at-start .pre .0 .second
 
 add-requires : tie.Need-add-requires
 add-requires c κs =
@@ -117,10 +124,12 @@ add-requires c κs =
     two-cut (at-start .pre .0) of-add (at-match .match .keys10) (at-second-from6 .second-from6 .ensures)
 
 second-from-requires-7 : tie.Need-second-from-requires-7
-second-from-requires-7 c κs = search needs
+second-from-requires-7 c κs =
+    let at-start = c .before .before .before .before .before .before in
+    at-start .pre .0 .second
 
 skip-requires : tie.Need-skip-requires
-skip-requires c κs = search needs
+skip-requires c κs = tt
 
 branch-requires : tie.Need-branch-requires
 branch-requires c κs =
@@ -137,10 +146,14 @@ release-requires c κs =
     section-cut (at-start .pre .0) (at-match .match .keys12)
 
 same-length : tie.Need-same-length
-same-length c = search needs
+same-length c =
+    let at-apply = c .before .before .before .before in
+    at-apply .apply .kept .1 .1 .0
 
 same-length-2 : tie.Need-same-length-2
-same-length-2 c = search needs
+same-length-2 c =
+    let at-apply = c .before .before .before .before in
+    at-apply .apply .kept .1 .1 .1 .0
 
 returns : tie.Need-returns
 returns c =
@@ -151,7 +164,9 @@ returns c =
     acts-app (at-start .pre .1 .1) (at-second-from .second-from .ensures) (at-match .match .keys1) (at-apply .apply .ensures)
 
 same-length-3 : tie.Need-same-length-3
-same-length-3 c = search needs
+same-length-3 c =
+    let at-make-cell = c .before .before in
+    at-make-cell .make-cell .kept .1 .1 .1 .1 .0
 
 returns-2 : tie.Need-returns-2
 returns-2 c =
@@ -162,7 +177,9 @@ returns-2 c =
     acts-cell (at-start .pre .1 .1) (at-match .match .keys2) (at-byte-at .byte-at .ensures) (at-make-cell .make-cell .ensures)
 
 same-length-4 : tie.Need-same-length-4
-same-length-4 c = search needs
+same-length-4 c =
+    let at-read = c .before .before in
+    at-read .read .kept .1 .1 .1 .1 .0
 
 returns-3 : tie.Need-returns-3
 returns-3 c =
@@ -172,7 +189,9 @@ returns-3 c =
     acts-read (at-start .pre .1 .1) (at-match .match .keys3) (at-read .read .ensures)
 
 same-length-5 : tie.Need-same-length-5
-same-length-5 c = search needs
+same-length-5 c =
+    let at-write = c .before .before in
+    at-write .write .kept .1 .1 .1 .0
 
 returns-4 : tie.Need-returns-4
 returns-4 c =
@@ -183,7 +202,9 @@ returns-4 c =
     acts-write (at-start .pre .1 .1) (at-second-from2 .second-from2 .ensures) (at-match .match .keys4) (at-write .write .ensures)
 
 same-length-6 : tie.Need-same-length-6
-same-length-6 c = search needs
+same-length-6 c =
+    let at-fork = c .before .before in
+    at-fork .fork .kept .1 .1 .1 .0
 
 returns-5 : tie.Need-returns-5
 returns-5 c =
@@ -194,10 +215,14 @@ returns-5 c =
     acts-fork (at-start .pre .1 .1) (at-match .match .keys5) (at-byte-at2 .byte-at2 .ensures) (at-fork .fork .ensures)
 
 same-length-7 : tie.Need-same-length-7
-same-length-7 c = search needs
+same-length-7 c =
+    let at-make-lock = c .before .before .before .before in
+    at-make-lock .make-lock .kept .1 .1 .1 .0
 
 same-length-8 : tie.Need-same-length-8
-same-length-8 c = search needs
+same-length-8 c =
+    let at-make-lock = c .before .before .before .before in
+    at-make-lock .make-lock .kept .1 .1 .1 .1 .0
 
 returns-6 : tie.Need-returns-6
 returns-6 c =
@@ -208,7 +233,9 @@ returns-6 c =
     acts-newlock (at-start .pre .1 .1) (at-match .match .keys6) (at-byte-at3 .byte-at3 .ensures) (at-make-lock .make-lock .ensures)
 
 same-length-9 : tie.Need-same-length-9
-same-length-9 c = search needs
+same-length-9 c =
+    let at-take = c .before .before in
+    at-take .take .kept .1 .1 .1 .0
 
 returns-7 : tie.Need-returns-7
 returns-7 c =
@@ -219,10 +246,14 @@ returns-7 c =
     acts-sync (at-start .pre .1 .1) (at-second-from3 .second-from3 .ensures) (at-match .match .keys7) (at-take .take .ensures)
 
 same-length-10 : tie.Need-same-length-10
-same-length-10 c = search needs
+same-length-10 c =
+    let at-bind = c .before .before .before .before in
+    at-bind .bind .kept .1 .1 .0
 
 same-length-11 : tie.Need-same-length-11
-same-length-11 c = search needs
+same-length-11 c =
+    let at-bind = c .before .before .before .before in
+    at-bind .bind .kept .1 .1 .1 .0
 
 returns-8 : tie.Need-returns-8
 returns-8 c =
@@ -233,7 +264,9 @@ returns-8 c =
     acts-bind (at-start .pre .1 .1) (at-second-from4 .second-from4 .ensures) (at-match .match .keys8) (at-bind .bind .ensures)
 
 same-length-12 : tie.Need-same-length-12
-same-length-12 c = search needs
+same-length-12 c =
+    let at-went-on = c .before .before in
+    at-went-on .went-on .kept .1 .1 .0
 
 returns-9 : tie.Need-returns-9
 returns-9 c =
@@ -244,7 +277,9 @@ returns-9 c =
     acts-seq (at-start .pre .1 .1) (at-second-from5 .second-from5 .ensures) (at-match .match .keys9) (at-went-on .went-on .ensures)
 
 same-length-13 : tie.Need-same-length-13
-same-length-13 c = search needs
+same-length-13 c =
+    let at-add = c .before .before in
+    at-add .add .kept .1 .1 .0
 
 returns-10 : tie.Need-returns-10
 returns-10 c =
@@ -255,7 +290,9 @@ returns-10 c =
     acts-add (at-start .pre .1 .1) (at-second-from6 .second-from6 .ensures) (at-match .match .keys10) (at-add .add .ensures)
 
 same-length-14 : tie.Need-same-length-14
-same-length-14 c = search needs
+same-length-14 c =
+    let at-branch = c .before .before in
+    at-branch .branch .kept .1 .1 .1 .0
 
 returns-11 : tie.Need-returns-11
 returns-11 c =
@@ -267,7 +304,9 @@ returns-11 c =
     acts-cond (at-start .pre .1 .1) (at-second-from7 .second-from7 .ensures) (at-match .match .keys11) (at-skip .skip .ensures .says) (at-branch .branch .ensures)
 
 same-length-15 : tie.Need-same-length-15
-same-length-15 c = search needs
+same-length-15 c =
+    let at-release = c .before .before in
+    at-release .release .kept .1 .0
 
 returns-12 : tie.Need-returns-12
 returns-12 c =

@@ -4,7 +4,7 @@ use Rattle.machine.proofs.dispatch.second_from.Statement.{statement}
 use Rattle.machine.proofs.dispatch.second_from.Tie as tie
 
 skip-requires : tie.Need-skip-requires
-skip-requires c κs = search needs
+skip-requires c κs = tt
 
 returns : tie.Need-returns
 returns c = search needs

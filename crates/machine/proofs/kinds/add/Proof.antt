@@ -1,5 +1,5 @@
 -- A part is no number, or the sum is exchanged for both.
-use mathlib.Core.Path.{ap₂, _∙_}
+use mathlib.Core.Path.{ap₂, _∙_, refl}
 use Prim.Native.Nat.{_+_, _%_, _^_}
 use borrow.Author.Needs.{needs}
 use Rattle.machine.specs.Doing.{add-stuck, add-stuck-too, add-done}
@@ -33,7 +33,7 @@ word-at-requires-2 : tie.Need-word-at-requires-2
 word-at-requires-2 c κs = search needs
 
 wrapping-add-u32-requires : tie.Need-wrapping-add-u32-requires
-wrapping-add-u32-requires c κs = search needs
+wrapping-add-u32-requires c κs = tt
 
 cast-t8 : tie.Need-cast-t8
 cast-t8 c = search needs
@@ -48,13 +48,15 @@ cast-t21 : tie.Need-cast-t21
 cast-t21 c = search needs
 
 slice-aggregate-fill : tie.Need-slice-aggregate-fill
-slice-aggregate-fill c = search needs
+slice-aggregate-fill c = refl
 
 fill-requires : tie.Need-fill-requires
-fill-requires c κs = search needs
+fill-requires c κs = tt
 
 same-length : tie.Need-same-length
-same-length c = search needs
+same-length c =
+    let at-fill = c .before .before in
+    at-fill .fill .kept .1 .0
 
 returns-3 : tie.Need-returns-3
 returns-3 c =

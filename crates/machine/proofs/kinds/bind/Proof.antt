@@ -23,13 +23,17 @@ part-put-end-2 : tie.Need-part-put-end-2
 part-put-end-2 c = search needs
 
 put-requires : tie.Need-put-requires
-put-requires c κs = search needs
+put-requires c κs = tt
 
 same-length : tie.Need-same-length
-same-length c = search needs
+same-length c =
+    let at-put = c .before .before .before .before in
+    at-put .put .kept .1 .1 .0
 
 same-length-2 : tie.Need-same-length-2
-same-length-2 c = search needs
+same-length-2 c =
+    let at-put = c .before .before .before .before in
+    at-put .put .kept .1 .1 .1 .1 .0
 
 returns : tie.Need-returns
 returns c =

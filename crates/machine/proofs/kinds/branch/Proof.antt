@@ -25,10 +25,12 @@ part-fill-end : tie.Need-part-fill-end
 part-fill-end c = search needs
 
 fill-requires : tie.Need-fill-requires
-fill-requires c κs = search needs
+fill-requires c κs = tt
 
 same-length : tie.Need-same-length
-same-length c = search needs
+same-length c =
+    let at-fill = c .before .before in
+    at-fill .fill .kept .1 .0
 
 returns-2 : tie.Need-returns-2
 returns-2 c =
@@ -48,10 +50,12 @@ part-fill-end-2 : tie.Need-part-fill-end-2
 part-fill-end-2 c = search needs
 
 fill-requires-2 : tie.Need-fill-requires-2
-fill-requires-2 c κs = search needs
+fill-requires-2 c κs = tt
 
 same-length-2 : tie.Need-same-length-2
-same-length-2 c = search needs
+same-length-2 c =
+    let at-fill2 = c .before .before in
+    at-fill2 .fill2 .kept .1 .0
 
 returns-3 : tie.Need-returns-3
 returns-3 c =

@@ -1,5 +1,5 @@
 -- There is no room for a thread, or unit is left.
-use borrow.Author.Needs.{needs}
+use mathlib.Core.Path.{refl}
 use Rattle.machine.specs.Doing.{fork-full, fork-done}
 use Rattle.machine.proofs.kinds.fork.Statement.{statement}
 use Rattle.machine.proofs.kinds.fork.Tie as tie
@@ -10,13 +10,15 @@ returns c =
     fork-full (at-if1 .if1 .taken)
 
 slice-aggregate-fill : tie.Need-slice-aggregate-fill
-slice-aggregate-fill c = search needs
+slice-aggregate-fill c = refl
 
 fill-requires : tie.Need-fill-requires
-fill-requires c κs = search needs
+fill-requires c κs = tt
 
 same-length : tie.Need-same-length
-same-length c = search needs
+same-length c =
+    let at-fill = c .before .before in
+    at-fill .fill .kept .1 .0
 
 returns-2 : tie.Need-returns-2
 returns-2 c =

@@ -1,4 +1,5 @@
 -- There is no room for a cell or for its value, or the next cell is left.
+use mathlib.Core.Path.{refl}
 use borrow.Author.Needs.{needs}
 use Rattle.machine.specs.Doing.{cell-full, cell-long, cell-made}
 use Rattle.machine.proofs.kinds.make_cell.Statement.{statement}
@@ -19,13 +20,15 @@ returns-2 c =
     cell-long (at-if1 .if1 .left) (at-if2 .if2 .taken)
 
 slice-aggregate-fill : tie.Need-slice-aggregate-fill
-slice-aggregate-fill c = search needs
+slice-aggregate-fill c = refl
 
 fill-requires : tie.Need-fill-requires
-fill-requires c κs = search needs
+fill-requires c κs = tt
 
 same-length : tie.Need-same-length
-same-length c = search needs
+same-length c =
+    let at-fill = c .before .before in
+    at-fill .fill .kept .1 .0
 
 returns-3 : tie.Need-returns-3
 returns-3 c =

@@ -1,4 +1,5 @@
 -- There is no room for a lock, or the part gets the next lock.
+use mathlib.Core.Path.{refl}
 use borrow.Author.Needs.{needs}
 use Rattle.machine.specs.Doing.{lock-full, lock-made}
 use Rattle.machine.proofs.kinds.make_lock.Statement.{statement}
@@ -19,16 +20,20 @@ part-put-end : tie.Need-part-put-end
 part-put-end c = search needs
 
 slice-aggregate-put : tie.Need-slice-aggregate-put
-slice-aggregate-put c = search needs
+slice-aggregate-put c = refl
 
 put-requires : tie.Need-put-requires
-put-requires c κs = search needs
+put-requires c κs = tt
 
 same-length : tie.Need-same-length
-same-length c = search needs
+same-length c =
+    let at-put = c .before .before .before .before in
+    at-put .put .kept .1 .1 .0
 
 same-length-2 : tie.Need-same-length-2
-same-length-2 c = search needs
+same-length-2 c =
+    let at-put = c .before .before .before .before in
+    at-put .put .kept .1 .1 .1 .1 .0
 
 returns-2 : tie.Need-returns-2
 returns-2 c =

@@ -1,13 +1,15 @@
 -- The part is no cell, or the cell's value is exchanged for it. A held state has room for each slot, so the two tests of it never fail.
-use native.Mathlib.Omega.{arith}
-use borrow.Author.Needs.{needs}
-use Rattle.machine.specs.Means.{slot-low}
+use native.Mathlib.Nat.{le-add-right}
+use lib.Dec.{lit<}
 use Rattle.machine.specs.Doing.{read-stuck, read-slot, read-end, read-done}
+use Rattle.machine.specs.Places.{slot-fits, slot-from, slot-within, pair-fits, pair-from, byte-fits}
 use Rattle.machine.proofs.kinds.read.Statement.{statement}
 use Rattle.machine.proofs.kinds.read.Tie as tie
 
 shared-slice-read-if1 : tie.Need-shared-slice-read-if1
-shared-slice-read-if1 c = search needs
+shared-slice-read-if1 c =
+    let at-start = c .before .before .before .before in
+    at-start .pre .0 .some
 
 returns : tie.Need-returns
 returns c =
@@ -15,19 +17,25 @@ returns c =
     read-stuck (at-if1 .if1 .taken)
 
 byte-at-requires : tie.Need-byte-at-requires
-byte-at-requires c κs = search needs
+byte-at-requires c κs = tt
 
 cast-j : tie.Need-cast-j
-cast-j c = search needs
+cast-j c =
+    let at-byte-at = c in
+    byte-fits (at-byte-at .byte-at .ok)
 
 mul-two-at : tie.Need-mul-two-at
-mul-two-at c = search needs
+mul-two-at c =
+    let at-byte-at = c in
+    pair-fits (at-byte-at .byte-at .ok)
 
 add-two-at : tie.Need-add-two-at
-add-two-at c = search needs
+add-two-at c =
+    let at-byte-at = c in
+    pair-from (lit< tt) (at-byte-at .byte-at .ok)
 
 two-at-requires : tie.Need-two-at-requires
-two-at-requires c κs = search needs
+two-at-requires c κs = tt
 
 returns-2 : tie.Need-returns-2
 returns-2 c =
@@ -41,19 +49,20 @@ mul-a : tie.Need-mul-a
 mul-a c =
     let at-byte-at = c .before .before in
     let at-start = c .before .before .before .before .before .before .before .before in
-    omega (arith, slot-low (at-start .args .size) (at-byte-at .byte-at .result) (at-start .pre .1 .small) (omega (arith, at-byte-at .byte-at .ok)))
+    slot-fits (at-start .args .size) (at-byte-at .byte-at .result) (at-start .pre .1 .small) (at-byte-at .byte-at .ok)
 
 add-a : tie.Need-add-a
 add-a c =
     let at-byte-at = c .before .before in
     let at-start = c .before .before .before .before .before .before .before .before in
-    omega (arith, slot-low (at-start .args .size) (at-byte-at .byte-at .result) (at-start .pre .1 .small) (omega (arith, at-byte-at .byte-at .ok)))
+    slot-from (at-start .args .size) (at-byte-at .byte-at .result) (at-start .pre .1 .small) (at-byte-at .byte-at .ok) (at-start .pre .1 .low)
 
 add-b : tie.Need-add-b
 add-b c =
+    let at-if2 = c in
     let at-byte-at = c .before .before in
     let at-start = c .before .before .before .before .before .before .before .before in
-    omega (arith, slot-low (at-start .args .size) (at-byte-at .byte-at .result) (at-start .pre .1 .small) (omega (arith, at-byte-at .byte-at .ok)))
+    slot-within (at-start .args .size) (at-byte-at .byte-at .result) (at-start .pre .1 .small) (at-byte-at .byte-at .ok) (at-start .pre .1 .low) (at-if2 .if2 .left)
 
 returns-3 : tie.Need-returns-3
 returns-3 c =
@@ -65,19 +74,23 @@ returns-3 c =
     read-end (at-if1 .if1 .left) (at-byte-at .byte-at .ensures) (at-two-at .two-at .ensures) (at-if2 .if2 .left) (at-if3 .if3 .taken)
 
 sub-fill : tie.Need-sub-fill
-sub-fill c = search needs
+sub-fill c = le-add-right _ _
 
 part-fill-start : tie.Need-part-fill-start
-part-fill-start c = search needs
+part-fill-start c = le-add-right _ _
 
 part-fill-end : tie.Need-part-fill-end
-part-fill-end c = search needs
+part-fill-end c =
+    let at-if3 = c in
+    at-if3 .if3 .left
 
 fill-requires : tie.Need-fill-requires
-fill-requires c κs = search needs
+fill-requires c κs = tt
 
 same-length : tie.Need-same-length
-same-length c = search needs
+same-length c =
+    let at-fill = c .before .before in
+    at-fill .fill .kept .1 .0
 
 returns-4 : tie.Need-returns-4
 returns-4 c =

@@ -1,14 +1,17 @@
 -- The section's part is exchanged for the section.
 use borrow.Author.Needs.{needs}
 use Rattle.machine.specs.Doing.{release-done}
+use Rattle.machine.specs.Places.{byte-fits}
 use Rattle.machine.proofs.kinds.release.Statement.{statement}
 use Rattle.machine.proofs.kinds.release.Tie as tie
 
 byte-at-requires : tie.Need-byte-at-requires
-byte-at-requires c κs = search needs
+byte-at-requires c κs = tt
 
 cast-l : tie.Need-cast-l
-cast-l c = search needs
+cast-l c =
+    let at-byte-at = c in
+    byte-fits (at-byte-at .byte-at .ok)
 
 sub-fill : tie.Need-sub-fill
 sub-fill c = search needs
@@ -20,10 +23,12 @@ part-fill-end : tie.Need-part-fill-end
 part-fill-end c = search needs
 
 fill-requires : tie.Need-fill-requires
-fill-requires c κs = search needs
+fill-requires c κs = tt
 
 same-length : tie.Need-same-length
-same-length c = search needs
+same-length c =
+    let at-fill = c .before .before in
+    at-fill .fill .kept .1 .0
 
 returns : tie.Need-returns
 returns c =

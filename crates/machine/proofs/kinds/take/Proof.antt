@@ -1,7 +1,9 @@
 -- The first part is no lock, the lock is marked, or an open section is left.
-use mathlib.Core.Path.{sym, _∙_}
+use mathlib.Core.Path.{sym, _∙_, refl}
+use lib.Dec.{lit<}
 use borrow.Author.Needs.{needs}
 use Rattle.machine.specs.Doing.{take-stuck, take-waits, take-done}
+use Rattle.machine.specs.Places.{byte-from, byte-fits}
 use Rattle.machine.proofs.kinds.take.Statement.{statement}
 use Rattle.machine.proofs.kinds.take.Tie as tie
 
@@ -14,16 +16,20 @@ returns c =
     take-stuck (at-if1 .if1 .taken)
 
 byte-at-requires : tie.Need-byte-at-requires
-byte-at-requires c κs = search needs
+byte-at-requires c κs = tt
 
 cast-l : tie.Need-cast-l
-cast-l c = search needs
+cast-l c =
+    let at-byte-at = c in
+    byte-fits (at-byte-at .byte-at .ok)
 
 add-byte-at : tie.Need-add-byte-at
-add-byte-at c = search needs
+add-byte-at c =
+    let at-byte-at = c in
+    byte-from (lit< tt) (at-byte-at .byte-at .ok)
 
 byte-at-requires-2 : tie.Need-byte-at-requires-2
-byte-at-requires-2 c κs = search needs
+byte-at-requires-2 c κs = tt
 
 returns-2 : tie.Need-returns-2
 returns-2 c =
@@ -34,7 +40,7 @@ returns-2 c =
     take-waits (at-if1 .if1 .left) (at-byte-at .byte-at .ensures) (λ z. at-if2 .if2 .taken (at-byte-at2 .byte-at2 .ensures ∙ z))
 
 slice-aggregate-fill-both : tie.Need-slice-aggregate-fill-both
-slice-aggregate-fill-both c = search needs
+slice-aggregate-fill-both c = refl
 
 sub-fill-both : tie.Need-sub-fill-both
 sub-fill-both c = search needs
@@ -46,10 +52,12 @@ part-fill-both-end : tie.Need-part-fill-both-end
 part-fill-both-end c = search needs
 
 fill-both-requires : tie.Need-fill-both-requires
-fill-both-requires c κs = search needs
+fill-both-requires c κs = tt
 
 same-length : tie.Need-same-length
-same-length c = search needs
+same-length c =
+    let at-fill-both = c .before .before in
+    at-fill-both .fill-both .kept .1 .1 .0
 
 returns-3 : tie.Need-returns-3
 returns-3 c =

@@ -1,6 +1,8 @@
 -- The first part is no cell, the second is too long for one, or unit is exchanged for both.
+use mathlib.Core.Path.{refl}
 use borrow.Author.Needs.{needs}
 use Rattle.machine.specs.Doing.{write-stuck, write-long, write-done}
+use Rattle.machine.specs.Places.{byte-fits}
 use Rattle.machine.proofs.kinds.write.Statement.{statement}
 use Rattle.machine.proofs.kinds.write.Tie as tie
 
@@ -13,10 +15,12 @@ returns c =
     write-stuck (at-if1 .if1 .taken)
 
 byte-at-requires : tie.Need-byte-at-requires
-byte-at-requires c κs = search needs
+byte-at-requires c κs = tt
 
 cast-j : tie.Need-cast-j
-cast-j c = search needs
+cast-j c =
+    let at-byte-at = c in
+    byte-fits (at-byte-at .byte-at .ok)
 
 sub-if2 : tie.Need-sub-if2
 sub-if2 c = search needs
@@ -28,13 +32,15 @@ returns-2 c =
     write-long (at-if1 .if1 .left) (at-if2 .if2 .taken)
 
 slice-aggregate-fill : tie.Need-slice-aggregate-fill
-slice-aggregate-fill c = search needs
+slice-aggregate-fill c = refl
 
 fill-requires : tie.Need-fill-requires
-fill-requires c κs = search needs
+fill-requires c κs = tt
 
 same-length : tie.Need-same-length
-same-length c = search needs
+same-length c =
+    let at-fill = c .before .before in
+    at-fill .fill .kept .1 .0
 
 returns-3 : tie.Need-returns-3
 returns-3 c =

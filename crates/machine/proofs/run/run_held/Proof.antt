@@ -1,11 +1,12 @@
 -- `CallsMade`, call after call.
 use mathlib.Core.Logic.{⊎-elim}
+use mathlib.Core.Path.{sym, _∙_}
 use Prim.Native.Nat.{_-_}
 use Rattle.machine.specs.Acting.{cardOf}
 use Rattle.machine.specs.RunCalls.{CallsMade, calls-start, calls-stepped, calls-refused, calls-end}
-use native.Mathlib.Omega.{arith}
 use Rattle.machine.specs.Answering.{Scratch, scratch-kept}
 use borrow.Author.Needs.{needs}
+use Rattle.machine.specs.Places.{byte-fits, nearer}
 use Rattle.machine.proofs.run.run_held.Statement.{statement}
 use Rattle.machine.proofs.run.run_held.Tie as tie
 
@@ -22,10 +23,12 @@ loop-holds c =
     (calls-start (at-start .pre .0), at-start .pre .1)
 
 byte-at-requires : tie.Need-byte-at-requires Inv-loop μ-loop
-byte-at-requires c κs = search needs
+byte-at-requires c κs = tt
 
 cast-call : tie.Need-cast-call Inv-loop μ-loop
-cast-call c = search needs
+cast-call c =
+    let at-byte-at = c in
+    byte-fits (at-byte-at .byte-at .ok)
 
 call-requires : tie.Need-call-requires Inv-loop μ-loop
 call-requires c κs =
@@ -39,7 +42,9 @@ add-i : tie.Need-add-i Inv-loop μ-loop
 add-i c = search needs
 
 loop-less : tie.Need-loop-less Inv-loop μ-loop
-loop-less c = search needs
+loop-less c =
+    let at-loop-test = c .before .before .before .before .before .before .before .before .before .before .before .before .before .before .before in
+    nearer (at-loop-test .loop-test .taken)
 
 loop-again : tie.Need-loop-again Inv-loop μ-loop
 loop-again c =
@@ -61,19 +66,19 @@ same-length-2 : tie.Need-same-length-2 Inv-loop μ-loop
 same-length-2 c =
     let at-loop = c .before in
     let at-start = c .before .before .before .before .before .before .before in
-    omega (arith, at-loop .loop .inv .1 .copy, at-start .pre .1 .copy)
+    at-loop .loop .inv .1 .copy ∙ sym (at-start .pre .1 .copy)
 
 same-length-3 : tie.Need-same-length-3 Inv-loop μ-loop
 same-length-3 c =
     let at-loop = c .before in
     let at-start = c .before .before .before .before .before .before .before in
-    omega (arith, at-loop .loop .inv .1 .after, at-start .pre .1 .after)
+    at-loop .loop .inv .1 .after ∙ sym (at-start .pre .1 .after)
 
 same-length-4 : tie.Need-same-length-4 Inv-loop μ-loop
 same-length-4 c =
     let at-loop = c .before in
     let at-start = c .before .before .before .before .before .before .before in
-    omega (arith, at-loop .loop .inv .1 .deep, at-start .pre .1 .deep)
+    at-loop .loop .inv .1 .deep ∙ sym (at-start .pre .1 .deep)
 
 returns : tie.Need-returns Inv-loop μ-loop
 returns c =

@@ -6,16 +6,16 @@ use Rattle.machine.proofs.step.find_due.Statement.{statement}
 use Rattle.machine.proofs.step.find_due.Tie as tie
 
 place-requires : tie.Need-place-requires
-place-requires c κs = search needs
+place-requires c κs = tt
 
 skip-requires : tie.Need-skip-requires
-skip-requires c κs = search needs
+skip-requires c κs = tt
 
 returns : tie.Need-returns
 returns c = search needs
 
 skip-requires-2 : tie.Need-skip-requires-2
-skip-requires-2 c κs = search needs
+skip-requires-2 c κs = tt
 
 sub-second : tie.Need-sub-second
 sub-second c =

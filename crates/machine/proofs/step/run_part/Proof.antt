@@ -1,11 +1,10 @@
 -- One law of `Running` a way.
-use mathlib.Core.Path.{sym}
-use native.Mathlib.Omega.{arith}
+use mathlib.Core.Path.{sym, refl, _∙_}
 use lib.Seq.{length-take-le}
-use borrow.Author.Needs.{needs}
-use Rattle.machine.specs.Means.{slot-low}
-use Rattle.machine.specs.Running.{part-fits, thread-fits, part-short, thread-low, run-redex, run-stuck, run-full, run-long, run-waits}
+use lib.Dec.{lit<}
+use Rattle.machine.specs.Running.{part-fits, part-short, thread-low, run-redex, run-stuck, run-full, run-long, run-waits, part-rest}
 use Rattle.machine.specs.Running.{run-outgrows, run-altering, run-room, run-made}
+use Rattle.machine.specs.Places.{slot-fits, slot-from, pair-fits, pair-from}
 use Rattle.machine.proofs.step.run_part.Statement.{statement}
 use Rattle.machine.proofs.step.run_part.Tie as tie
 
@@ -15,38 +14,42 @@ act-requires c κs =
     (run-redex (at-start .pre), (part-short (at-start .pre), at-start .pre .base .fits))
 
 enum-told : tie.Need-enum-told
-enum-told c = search needs
+enum-told c = c .match .keys1
 
 enum-told-2 : tie.Need-enum-told-2
-enum-told-2 c = search needs
+enum-told-2 c = c .match .keys2
 
 enum-told-3 : tie.Need-enum-told-3
-enum-told-3 c = search needs
+enum-told-3 c = c .match .keys3
 
 enum-known-l : tie.Need-enum-known-l
-enum-known-l c = search needs
+enum-known-l c = c .match .keys4
 
 enum-known-kind : tie.Need-enum-known-kind
-enum-known-kind c = search needs
+enum-known-kind c = c .match .keys5
 
 sub-if1 : tie.Need-sub-if1
 sub-if1 c =
     let at-start = c .before .before .before .before .before .before .before .before .before .before .before .before .before .before .before .before in
-    omega (arith, part-fits (at-start .pre), thread-fits (at-start .pre))
+    part-fits (at-start .pre)
 
 sub-if1-2 : tie.Need-sub-if1-2
 sub-if1-2 c =
     let at-start = c .before .before .before .before .before .before .before .before .before .before .before .before .before .before .before .before in
-    omega (arith, part-fits (at-start .pre), thread-fits (at-start .pre))
+    part-rest (at-start .pre)
 
 same-length : tie.Need-same-length
-same-length c = search needs
+same-length c = refl
 
 same-length-2 : tie.Need-same-length-2
-same-length-2 c = search needs
+same-length-2 c =
+    let at-act = c .before .before .before .before .before .before .before .before .before in
+    at-act .act .kept .1 .1 .1 .1 .0
 
 same-length-3 : tie.Need-same-length-3
-same-length-3 c = search needs
+same-length-3 c =
+    let at-act = c .before .before .before .before .before .before .before .before .before in
+    at-act .act .kept .1 .1 .1 .1 .1 .0
 
 returns : tie.Need-returns
 returns c =
@@ -66,25 +69,30 @@ change-requires c κs =
 mul-base : tie.Need-mul-base
 mul-base c =
     let at-start = c .before .before .before .before .before .before .before .before .before .before .before .before .before .before .before .before .before .before .before .before .before in
-    omega (arith, slot-low (at-start .args .card .«thread_bytes») (at-start .args .i) (at-start .pre .base .fits .threadBytes) (thread-low (at-start .pre)))
+    slot-fits (at-start .args .card .«thread_bytes») (at-start .args .i) (at-start .pre .base .fits .threadBytes) (thread-low (at-start .pre))
 
 add-base : tie.Need-add-base
 add-base c =
     let at-start = c .before .before .before .before .before .before .before .before .before .before .before .before .before .before .before .before .before .before .before .before .before in
-    omega (arith, slot-low (at-start .args .card .«thread_bytes») (at-start .args .i) (at-start .pre .base .fits .threadBytes) (thread-low (at-start .pre)))
+    slot-from (at-start .args .card .«thread_bytes») (at-start .args .i) (at-start .pre .base .fits .threadBytes) (thread-low (at-start .pre)) (lit< tt)
 
 mul-exchange : tie.Need-mul-exchange
 mul-exchange c =
     let at-start = c .before .before .before .before .before .before .before .before .before .before .before .before .before .before .before .before .before .before .before .before .before .before in
-    omega (arith, thread-low (at-start .pre))
+    pair-fits (thread-low (at-start .pre))
 
 add-exchange : tie.Need-add-exchange
 add-exchange c =
     let at-start = c .before .before .before .before .before .before .before .before .before .before .before .before .before .before .before .before .before .before .before .before .before .before in
-    omega (arith, thread-low (at-start .pre))
+    pair-from (lit< tt) (thread-low (at-start .pre))
 
 slice-reshare-prefix-exchange : tie.Need-slice-reshare-prefix-exchange
-slice-reshare-prefix-exchange c = search needs
+slice-reshare-prefix-exchange c =
+    let at-if1 = c .before .before .before .before .before in
+    let at-kind = c .before .before .before .before .before .before .before .before in
+    let at-act = c .before .before .before .before .before .before .before .before .before .before .before .before .before .before in
+    let at-start = c .before .before .before .before .before .before .before .before .before .before .before .before .before .before .before .before .before .before .before .before .before .before in
+    run-room (at-start .pre) (at-act .act .ensures) (at-kind .kind .given .1) (at-if1 .if1 .left) (at-act .act .kept .1 .1 .1 .1 .0)
 
 slice-aggregate-exchange : tie.Need-slice-aggregate-exchange
 slice-aggregate-exchange c =
@@ -92,19 +100,23 @@ slice-aggregate-exchange c =
     let at-kind = c .before .before .before .before .before .before .before .before .before in
     let at-act = c .before .before .before .before .before .before .before .before .before .before .before .before .before .before .before in
     let at-start = c .before .before .before .before .before .before .before .before .before .before .before .before .before .before .before .before .before .before .before .before .before .before .before in
-    sym (length-take-le _ _ (omega (arith, run-room (at-start .pre) (at-act .act .ensures) (at-kind .kind .given .1) (at-if1 .if1 .left), at-act .act .kept .1 .1 .1 .1 .0)))
+    sym (length-take-le _ _ (run-room (at-start .pre) (at-act .act .ensures) (at-kind .kind .given .1) (at-if1 .if1 .left) (at-act .act .kept .1 .1 .1 .1 .0)))
 
 exchange-requires : tie.Need-exchange-requires
-exchange-requires c κs = search needs
+exchange-requires c κs = tt
 
 same-length-4 : tie.Need-same-length-4
-same-length-4 c = search needs
+same-length-4 c = refl
 
 same-length-5 : tie.Need-same-length-5
-same-length-5 c = search needs
+same-length-5 c =
+    let at-act = c .before .before .before .before .before .before in
+    at-act .act .kept .1 .1 .1 .1 .0
 
 same-length-6 : tie.Need-same-length-6
-same-length-6 c = search needs
+same-length-6 c =
+    let at-act = c .before .before .before .before .before .before in
+    at-act .act .kept .1 .1 .1 .1 .1 .0
 
 returns-2 : tie.Need-returns-2
 returns-2 c =
@@ -114,13 +126,17 @@ returns-2 c =
     run-stuck (at-start .pre) (at-act .act .ensures) (at-enum-told .enum-told .given .1)
 
 same-length-7 : tie.Need-same-length-7
-same-length-7 c = search needs
+same-length-7 c = refl
 
 same-length-8 : tie.Need-same-length-8
-same-length-8 c = search needs
+same-length-8 c =
+    let at-act = c .before .before .before .before .before .before in
+    at-act .act .kept .1 .1 .1 .1 .0
 
 same-length-9 : tie.Need-same-length-9
-same-length-9 c = search needs
+same-length-9 c =
+    let at-act = c .before .before .before .before .before .before in
+    at-act .act .kept .1 .1 .1 .1 .1 .0
 
 returns-3 : tie.Need-returns-3
 returns-3 c =
@@ -130,13 +146,17 @@ returns-3 c =
     run-full (at-start .pre) (at-act .act .ensures) (at-enum-told2 .enum-told2 .given .1)
 
 same-length-10 : tie.Need-same-length-10
-same-length-10 c = search needs
+same-length-10 c = refl
 
 same-length-11 : tie.Need-same-length-11
-same-length-11 c = search needs
+same-length-11 c =
+    let at-act = c .before .before .before .before .before .before in
+    at-act .act .kept .1 .1 .1 .1 .0
 
 same-length-12 : tie.Need-same-length-12
-same-length-12 c = search needs
+same-length-12 c =
+    let at-act = c .before .before .before .before .before .before in
+    at-act .act .kept .1 .1 .1 .1 .1 .0
 
 returns-4 : tie.Need-returns-4
 returns-4 c =
@@ -146,13 +166,17 @@ returns-4 c =
     run-long (at-start .pre) (at-act .act .ensures) (at-enum-told3 .enum-told3 .given .1)
 
 same-length-13 : tie.Need-same-length-13
-same-length-13 c = search needs
+same-length-13 c = refl
 
 same-length-14 : tie.Need-same-length-14
-same-length-14 c = search needs
+same-length-14 c =
+    let at-act = c .before .before .before .before .before .before .before in
+    at-act .act .kept .1 .1 .1 .1 .0
 
 same-length-15 : tie.Need-same-length-15
-same-length-15 c = search needs
+same-length-15 c =
+    let at-act = c .before .before .before .before .before .before .before in
+    at-act .act .kept .1 .1 .1 .1 .1 .0
 
 returns-5 : tie.Need-returns-5
 returns-5 c =
@@ -162,13 +186,20 @@ returns-5 c =
     run-waits (at-start .pre) (at-act .act .ensures) (at-l .l .given .1)
 
 same-length-16 : tie.Need-same-length-16
-same-length-16 c = search needs
+same-length-16 c =
+    let at-exchange = c .before .before in
+    let at-change = c .before .before .before .before .before .before .before in
+    at-exchange .exchange .kept .0 ∙ at-change .change .kept .0
 
 same-length-17 : tie.Need-same-length-17
-same-length-17 c = search needs
+same-length-17 c =
+    let at-act = c .before .before .before .before .before .before .before .before .before .before .before .before .before .before .before .before .before .before in
+    at-act .act .kept .1 .1 .1 .1 .0
 
 same-length-18 : tie.Need-same-length-18
-same-length-18 c = search needs
+same-length-18 c =
+    let at-act = c .before .before .before .before .before .before .before .before .before .before .before .before .before .before .before .before .before .before in
+    at-act .act .kept .1 .1 .1 .1 .1 .0
 
 returns-6 : tie.Need-returns-6
 returns-6 c =

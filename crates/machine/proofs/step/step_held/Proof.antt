@@ -1,51 +1,62 @@
 -- The thread's slot is within the buffer, the part that is due within the thread, and its bytes are copied whole: the laws of `Entering`.
-use mathlib.Core.Path.{sym}
-use native.Mathlib.Omega.{arith}
+use mathlib.Core.Path.{refl, sym}
+use native.Mathlib.Nat.{le-add-right}
 use lib.Seq.{length-take-le}
-use borrow.Author.Needs.{needs}
-use Rattle.machine.specs.Means.{slot-low}
-use Rattle.machine.specs.Entering.{held-nobody, held-few, held-start, held-finished, held-inside, held-whole, held-cut, held-all, held-running}
+use lib.Dec.{lit<}
+use Rattle.machine.specs.Entering.{held-nobody, held-start, held-finished, held-to, held-inside, held-whole, held-low}
+use Rattle.machine.specs.Entering.{held-part-from, held-part-to, held-part, held-part-inside, held-all, held-running}
+use Rattle.machine.specs.Places.{slot-fits, slot-from, pair-fits, pair-from, byte-fits}
 use Rattle.machine.proofs.step.step_held.Statement.{statement}
 use Rattle.machine.proofs.step.step_held.Tie as tie
 
 byte-at-requires : tie.Need-byte-at-requires
-byte-at-requires c κs = search needs
+byte-at-requires c κs = tt
 
 cast-count : tie.Need-cast-count
-cast-count c = search needs
+cast-count c =
+    let at-byte-at = c in
+    byte-fits (at-byte-at .byte-at .ok)
 
 same-length : tie.Need-same-length
-same-length c = search needs
+same-length c = refl
 
 returns : tie.Need-returns
 returns c =
     let at-if1 = c in
     let at-byte-at = c .before in
     let at-start = c .before .before .before .before .before .before .before in
-    held-nobody (at-start .pre .0) (omega (arith, at-byte-at .byte-at .ensures, at-if1 .if1 .taken))
+    held-nobody (at-start .pre .0) (at-byte-at .byte-at .ensures) (at-if1 .if1 .taken)
 
 mul-two-at : tie.Need-mul-two-at
-mul-two-at c = search needs
+mul-two-at c =
+    let at-if1 = c .before in
+    let at-byte-at = c .before .before in
+    let at-start = c .before .before .before .before .before .before .before .before in
+    pair-fits (held-low (at-start .pre .0) (at-byte-at .byte-at .ensures) (at-if1 .if1 .left))
 
 add-two-at : tie.Need-add-two-at
-add-two-at c = search needs
+add-two-at c =
+    let at-if1 = c .before in
+    let at-byte-at = c .before .before in
+    let at-start = c .before .before .before .before .before .before .before .before in
+    pair-from (lit< tt) (held-low (at-start .pre .0) (at-byte-at .byte-at .ensures) (at-if1 .if1 .left))
 
 two-at-requires : tie.Need-two-at-requires
-two-at-requires c κs = search needs
+two-at-requires c κs = tt
 
 mul-a : tie.Need-mul-a
 mul-a c =
     let at-if1 = c .before .before .before in
     let at-byte-at = c .before .before .before .before in
     let at-start = c .before .before .before .before .before .before .before .before .before .before in
-    omega (arith, slot-low (at-start .args .card .«thread_bytes») (at-start .args .i) (at-start .pre .0 .fits .threadBytes) (omega (arith, at-byte-at .byte-at .ok, at-if1 .if1 .left)))
+    slot-fits (at-start .args .card .«thread_bytes») (at-start .args .i) (at-start .pre .0 .fits .threadBytes) (held-low (at-start .pre .0) (at-byte-at .byte-at .ensures) (at-if1 .if1 .left))
 
 add-a : tie.Need-add-a
 add-a c =
     let at-if1 = c .before .before .before in
     let at-byte-at = c .before .before .before .before in
     let at-start = c .before .before .before .before .before .before .before .before .before .before in
-    omega (arith, slot-low (at-start .args .card .«thread_bytes») (at-start .args .i) (at-start .pre .0 .fits .threadBytes) (omega (arith, at-byte-at .byte-at .ok, at-if1 .if1 .left)))
+    slot-from (at-start .args .card .«thread_bytes») (at-start .args .i) (at-start .pre .0 .fits .threadBytes) (held-low (at-start .pre .0) (at-byte-at .byte-at .ensures) (at-if1 .if1 .left)) (lit< tt)
 
 add-b : tie.Need-add-b
 add-b c =
@@ -53,20 +64,20 @@ add-b c =
     let at-if1 = c .before .before .before in
     let at-byte-at = c .before .before .before .before in
     let at-start = c .before .before .before .before .before .before .before .before .before .before in
-    omega (arith, slot-low (at-start .args .card .«thread_bytes») (at-start .args .i) (at-start .pre .0 .fits .threadBytes) (omega (arith, at-byte-at .byte-at .ok, at-if1 .if1 .left)), held-few (at-start .pre .0) (omega (arith, at-byte-at .byte-at .ensures, at-if1 .if1 .left)) (at-two-at .two-at .ensures), at-start .pre .0 .short)
+    held-to (at-start .pre .0) (at-byte-at .byte-at .ensures) (at-if1 .if1 .left) (at-two-at .two-at .ensures)
 
 slice-read-value : tie.Need-slice-read-value
 slice-read-value c =
     let at-if1 = c .before .before .before .before in
     let at-byte-at = c .before .before .before .before .before in
     let at-start = c .before .before .before .before .before .before .before .before .before .before .before in
-    held-start (at-start .pre .0) (omega (arith, at-byte-at .byte-at .ensures, at-if1 .if1 .left))
+    held-start (at-start .pre .0) (at-byte-at .byte-at .ensures) (at-if1 .if1 .left)
 
 value-requires : tie.Need-value-requires
-value-requires c κs = search needs
+value-requires c κs = tt
 
 same-length-2 : tie.Need-same-length-2
-same-length-2 c = search needs
+same-length-2 c = refl
 
 returns-2 : tie.Need-returns-2
 returns-2 c =
@@ -75,13 +86,13 @@ returns-2 c =
     let at-if1 = c .before .before .before .before .before .before in
     let at-byte-at = c .before .before .before .before .before .before .before in
     let at-start = c .before .before .before .before .before .before .before .before .before .before .before .before .before in
-    held-finished (at-start .pre .0) (omega (arith, at-byte-at .byte-at .ensures, at-if1 .if1 .left)) (at-value .value .ensures) (at-if2 .if2 .taken)
+    held-finished (at-start .pre .0) (at-byte-at .byte-at .ensures) (at-if1 .if1 .left) (at-value .value .ensures) (at-if2 .if2 .taken)
 
 sub-find-due : tie.Need-sub-find-due
-sub-find-due c = search needs
+sub-find-due c = le-add-right _ _
 
 part-find-due-start : tie.Need-part-find-due-start
-part-find-due-start c = search needs
+part-find-due-start c = le-add-right _ _
 
 part-find-due-end : tie.Need-part-find-due-end
 part-find-due-end c =
@@ -89,7 +100,7 @@ part-find-due-end c =
     let at-if1 = c .before .before .before .before .before .before .before in
     let at-byte-at = c .before .before .before .before .before .before .before .before in
     let at-start = c .before .before .before .before .before .before .before .before .before .before .before .before .before .before in
-    held-inside (at-start .pre .0) (omega (arith, at-byte-at .byte-at .ensures, at-if1 .if1 .left)) (at-two-at .two-at .ensures)
+    held-inside (at-start .pre .0) (at-byte-at .byte-at .ensures) (at-if1 .if1 .left) (at-two-at .two-at .ensures)
 
 find-due-requires : tie.Need-find-due-requires
 find-due-requires c κs =
@@ -97,7 +108,7 @@ find-due-requires c κs =
     let at-if1 = c .before .before .before .before .before .before .before .before in
     let at-byte-at = c .before .before .before .before .before .before .before .before .before in
     let at-start = c .before .before .before .before .before .before .before .before .before .before .before .before .before .before .before in
-    held-whole (at-start .pre .0) (omega (arith, at-byte-at .byte-at .ensures, at-if1 .if1 .left)) (at-two-at .two-at .ensures)
+    held-whole (at-start .pre .0) (at-byte-at .byte-at .ensures) (at-if1 .if1 .left) (at-two-at .two-at .ensures)
 
 add-from : tie.Need-add-from
 add-from c =
@@ -106,7 +117,7 @@ add-from c =
     let at-if1 = c .before .before .before .before .before .before .before .before .before .before in
     let at-byte-at = c .before .before .before .before .before .before .before .before .before .before .before in
     let at-start = c .before .before .before .before .before .before .before .before .before .before .before .before .before .before .before .before .before in
-    omega (arith, slot-low (at-start .args .card .«thread_bytes») (at-start .args .i) (at-start .pre .0 .fits .threadBytes) (omega (arith, at-byte-at .byte-at .ok, at-if1 .if1 .left)), held-few (at-start .pre .0) (omega (arith, at-byte-at .byte-at .ensures, at-if1 .if1 .left)) (at-two-at .two-at .ensures), at-start .pre .0 .short, held-cut (at-start .pre .0) (omega (arith, at-byte-at .byte-at .ensures, at-if1 .if1 .left)) (at-two-at .two-at .ensures) (at-find-due .find-due .ensures))
+    held-part-from (at-start .pre .0) (at-byte-at .byte-at .ensures) (at-if1 .if1 .left) (at-two-at .two-at .ensures) (at-find-due .find-due .ensures)
 
 add-to : tie.Need-add-to
 add-to c =
@@ -115,7 +126,7 @@ add-to c =
     let at-if1 = c .before .before .before .before .before .before .before .before .before .before .before in
     let at-byte-at = c .before .before .before .before .before .before .before .before .before .before .before .before in
     let at-start = c .before .before .before .before .before .before .before .before .before .before .before .before .before .before .before .before .before .before in
-    omega (arith, slot-low (at-start .args .card .«thread_bytes») (at-start .args .i) (at-start .pre .0 .fits .threadBytes) (omega (arith, at-byte-at .byte-at .ok, at-if1 .if1 .left)), held-few (at-start .pre .0) (omega (arith, at-byte-at .byte-at .ensures, at-if1 .if1 .left)) (at-two-at .two-at .ensures), at-start .pre .0 .short, held-cut (at-start .pre .0) (omega (arith, at-byte-at .byte-at .ensures, at-if1 .if1 .left)) (at-two-at .two-at .ensures) (at-find-due .find-due .ensures))
+    held-part-to (at-start .pre .0) (at-byte-at .byte-at .ensures) (at-if1 .if1 .left) (at-two-at .two-at .ensures) (at-find-due .find-due .ensures)
 
 sub-fill : tie.Need-sub-fill
 sub-fill c =
@@ -124,7 +135,7 @@ sub-fill c =
     let at-if1 = c .before .before .before .before .before .before .before .before .before .before .before in
     let at-byte-at = c .before .before .before .before .before .before .before .before .before .before .before .before in
     let at-start = c .before .before .before .before .before .before .before .before .before .before .before .before .before .before .before .before .before .before in
-    omega (arith, held-cut (at-start .pre .0) (omega (arith, at-byte-at .byte-at .ensures, at-if1 .if1 .left)) (at-two-at .two-at .ensures) (at-find-due .find-due .ensures))
+    held-part (at-start .pre .0) (at-byte-at .byte-at .ensures) (at-if1 .if1 .left) (at-two-at .two-at .ensures) (at-find-due .find-due .ensures)
 
 part-fill-start : tie.Need-part-fill-start
 part-fill-start c =
@@ -133,7 +144,7 @@ part-fill-start c =
     let at-if1 = c .before .before .before .before .before .before .before .before .before .before .before .before in
     let at-byte-at = c .before .before .before .before .before .before .before .before .before .before .before .before .before in
     let at-start = c .before .before .before .before .before .before .before .before .before .before .before .before .before .before .before .before .before .before .before in
-    omega (arith, held-cut (at-start .pre .0) (omega (arith, at-byte-at .byte-at .ensures, at-if1 .if1 .left)) (at-two-at .two-at .ensures) (at-find-due .find-due .ensures))
+    held-part (at-start .pre .0) (at-byte-at .byte-at .ensures) (at-if1 .if1 .left) (at-two-at .two-at .ensures) (at-find-due .find-due .ensures)
 
 part-fill-end : tie.Need-part-fill-end
 part-fill-end c =
@@ -142,10 +153,10 @@ part-fill-end c =
     let at-if1 = c .before .before .before .before .before .before .before .before .before .before .before .before in
     let at-byte-at = c .before .before .before .before .before .before .before .before .before .before .before .before .before in
     let at-start = c .before .before .before .before .before .before .before .before .before .before .before .before .before .before .before .before .before .before .before in
-    omega (arith, held-cut (at-start .pre .0) (omega (arith, at-byte-at .byte-at .ensures, at-if1 .if1 .left)) (at-two-at .two-at .ensures) (at-find-due .find-due .ensures), held-inside (at-start .pre .0) (omega (arith, at-byte-at .byte-at .ensures, at-if1 .if1 .left)) (at-two-at .two-at .ensures))
+    held-part-inside (at-start .pre .0) (at-byte-at .byte-at .ensures) (at-if1 .if1 .left) (at-two-at .two-at .ensures) (at-find-due .find-due .ensures)
 
 fill-requires : tie.Need-fill-requires
-fill-requires c κs = search needs
+fill-requires c κs = tt
 
 slice-reshare-prefix-run-part : tie.Need-slice-reshare-prefix-run-part
 slice-reshare-prefix-run-part c =
@@ -155,7 +166,7 @@ slice-reshare-prefix-run-part c =
     let at-if1 = c .before .before .before .before .before .before .before .before .before .before .before .before .before .before .before .before .before .before in
     let at-byte-at = c .before .before .before .before .before .before .before .before .before .before .before .before .before .before .before .before .before .before .before in
     let at-start = c .before .before .before .before .before .before .before .before .before .before .before .before .before .before .before .before .before .before .before .before .before .before .before .before .before in
-    omega (arith, held-all (at-start .pre .0) (omega (arith, at-byte-at .byte-at .ensures, at-if1 .if1 .left)) (at-two-at .two-at .ensures) (at-find-due .find-due .ensures) (at-fill .fill .ensures) (at-start .pre .1 .copy), at-fill .fill .kept .1 .0, at-start .pre .1 .copy)
+    held-all (at-start .pre .0) (at-byte-at .byte-at .ensures) (at-if1 .if1 .left) (at-two-at .two-at .ensures) (at-find-due .find-due .ensures) (at-fill .fill .ensures) (at-start .pre .1 .copy) (at-fill .fill .kept .1 .0)
 
 slice-aggregate-run-part : tie.Need-slice-aggregate-run-part
 slice-aggregate-run-part c =
@@ -165,7 +176,7 @@ slice-aggregate-run-part c =
     let at-if1 = c .before .before .before .before .before .before .before .before .before .before .before .before .before .before .before .before .before .before .before in
     let at-byte-at = c .before .before .before .before .before .before .before .before .before .before .before .before .before .before .before .before .before .before .before .before in
     let at-start = c .before .before .before .before .before .before .before .before .before .before .before .before .before .before .before .before .before .before .before .before .before .before .before .before .before .before in
-    sym (length-take-le _ _ (omega (arith, held-all (at-start .pre .0) (omega (arith, at-byte-at .byte-at .ensures, at-if1 .if1 .left)) (at-two-at .two-at .ensures) (at-find-due .find-due .ensures) (at-fill .fill .ensures) (at-start .pre .1 .copy), at-fill .fill .kept .1 .0, at-start .pre .1 .copy)))
+    sym (length-take-le _ _ (held-all (at-start .pre .0) (at-byte-at .byte-at .ensures) (at-if1 .if1 .left) (at-two-at .two-at .ensures) (at-find-due .find-due .ensures) (at-fill .fill .ensures) (at-start .pre .1 .copy) (at-fill .fill .kept .1 .0)))
 
 run-part-requires : tie.Need-run-part-requires
 run-part-requires c κs =
@@ -177,22 +188,32 @@ run-part-requires c κs =
     let at-if1 = c .before .before .before .before .before .before .before .before .before .before .before .before .before .before .before .before .before .before .before .before .before in
     let at-byte-at = c .before .before .before .before .before .before .before .before .before .before .before .before .before .before .before .before .before .before .before .before .before .before in
     let at-start = c .before .before .before .before .before .before .before .before .before .before .before .before .before .before .before .before .before .before .before .before .before .before .before .before .before .before .before .before in
-    held-running (at-start .pre .0) (omega (arith, at-byte-at .byte-at .ensures, at-if1 .if1 .left)) (at-two-at .two-at .ensures) (at-find-due .find-due .ensures) (at-fill .fill .ensures) (at-start .pre .1 .copy) (at-value .value .ensures) (at-if2 .if2 .left) (at-start .pre .1 .after) (at-start .pre .1 .deep)
+    held-running (at-start .pre .0) (at-byte-at .byte-at .ensures) (at-if1 .if1 .left) (at-two-at .two-at .ensures) (at-find-due .find-due .ensures) (at-fill .fill .ensures) (at-start .pre .1 .copy) (at-value .value .ensures) (at-if2 .if2 .left) (at-start .pre .1 .after) (at-start .pre .1 .deep)
 
 same-length-3 : tie.Need-same-length-3
-same-length-3 c = search needs
+same-length-3 c =
+    let at-run-part = c .before .before .before .before .before .before in
+    at-run-part .run-part .kept .0
 
 same-length-4 : tie.Need-same-length-4
-same-length-4 c = search needs
+same-length-4 c =
+    let at-fill = c .before .before .before .before .before .before .before .before .before .before .before .before .before in
+    at-fill .fill .kept .1 .0
 
 same-length-5 : tie.Need-same-length-5
-same-length-5 c = search needs
+same-length-5 c =
+    let at-run-part = c .before .before .before .before .before .before in
+    at-run-part .run-part .kept .1 .1 .1 .1 .1 .0
 
 same-length-6 : tie.Need-same-length-6
-same-length-6 c = search needs
+same-length-6 c =
+    let at-run-part = c .before .before .before .before .before .before in
+    at-run-part .run-part .kept .1 .1 .1 .1 .1 .1 .0
 
 returns-3 : tie.Need-returns-3
-returns-3 c = search needs
+returns-3 c =
+    let at-run-part = c .before .before .before .before .before .before in
+    at-run-part .run-part .ensures
 
 pub step-held-spec : {M : Type 1} → statement M
 step-held-spec =
