@@ -4,21 +4,12 @@ ghost use Prim.Native.Nat.{_<_};
 ghost use Rattle.paper.specs.Base.{at};
 ghost use Rattle.paper.specs.States.{Fits};
 ghost use Rattle.machine.specs.Acting.{cardOf};
-ghost use Rattle.machine.specs.Altering.{ThreadPut, CellPut, ThreadAdded, CellAdded, Altering, Alters};
+ghost use Rattle.machine.specs.Altering.{CellPut, ThreadAdded, CellAdded, Altering, Alters};
 use crate::act::Also;
 use crate::act::Card;
 use plans::store::byte_at;
 use plans::store::put_byte;
 use plans::store::store;
-
-fn set_thread(state: &mut [u8], card: Card, i: usize, bytes: &[u8])
-    requires { ⌜ Fits (cardOf card) ⌝ }
-    requires { ⌜ i < 256 ⌝ }
-    ensures { λ _. ⌜ ThreadPut (cardOf card) i (now (bytes .entry)) (now (state .entry)) (now (state .exit)) ⌝ }
-{
-    let size = card.thread_bytes;
-    store(state, 256 + size * i, size, 38 + 2 * i, bytes);
-}
 
 fn set_cell(state: &mut [u8], card: Card, j: usize, bytes: &[u8])
     requires { ⌜ Fits (cardOf card) ⌝ }
@@ -36,7 +27,8 @@ fn new_thread(state: &mut [u8], card: Card, i: usize, bytes: &[u8])
     requires { ⌜ i < 255 ⌝ }
     ensures { λ _. ⌜ ThreadAdded (cardOf card) i (now (bytes .entry)) (now (state .entry)) (now (state .exit)) ⌝ }
 {
-    set_thread(state, card, i, bytes);
+    let size = card.thread_bytes;
+    store(state, 256 + size * i, size, 38 + 2 * i, bytes);
     put_byte(state, 3, (i + 1) as u8);
 }
 

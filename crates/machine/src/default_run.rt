@@ -7,7 +7,8 @@ ghost use Rattle.machine.specs.Lowest.{StepsLowest};
 ghost use Rattle.machine.specs.DefaultCalls.{DefaultRuns};
 use crate::act::Card;
 use crate::act::SIXTEEN;
-use crate::call::call;
+use crate::numbers::answer_of;
+use crate::step::step_held;
 use plans::store::byte_at;
 
 pub enum DefaultRun {
@@ -33,7 +34,7 @@ fn step_lowest(
     let count = byte_at(state, 3) as u64;
     let mut i = 0;
     while i < count {
-        if call(state, i, card, old, out, stack) == 0 {
+        if answer_of(step_held(state, i, card, old, out, stack)) == 0 {
             return true;
         }
         i += 1;

@@ -8,6 +8,5 @@ mod change; // change.rt: the stores of a change
 pub mod step; // step.rt: the step
 pub mod entry; // entry.rt: the public step
 pub mod numbers; // numbers.rt: document 01's number of each answer
-mod call; // call.rt: one call of a run
 pub mod run; // run.rt: the run of a schedule
 pub mod default_run; // default_run.rt: the default run

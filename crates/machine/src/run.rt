@@ -6,9 +6,9 @@ ghost use Rattle.machine.specs.Answering.{Held, Scratch};
 ghost use Rattle.machine.specs.RunCalls.{Runs};
 use crate::act::Card;
 use crate::act::SIXTEEN;
-use crate::call::call;
 use crate::numbers::answer_of;
 use crate::step::Step;
+use crate::step::step_held;
 use plans::store::byte_at;
 
 pub struct Ran {
@@ -33,7 +33,8 @@ fn run_held(
     let mut last = 0;
     let n = schedule.len();
     for i in 0..n {
-        last = call(state, byte_at(schedule, i) as u64, card, old, out, stack);
+        let thread = byte_at(schedule, i) as u64;
+        last = answer_of(step_held(state, thread, card, old, out, stack));
         if last == 0 {
             steps += 1;
         }

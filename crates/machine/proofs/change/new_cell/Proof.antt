@@ -1,10 +1,10 @@
 -- The count that was read is the state's.
-use mathlib.Core.Path.{subst, _∙_}
-use Prim.Native.Nat.{_+_}
-use borrow.Author.Needs.{needs}
+use mathlib.Core.Path.{subst, _∙_, sym}
+use Prim.Native.Nat.{_+_, _<_}
 use Rattle.plans.specs.Store.{Puts}
 use Rattle.machine.specs.Acting.{cardOf}
 use Rattle.machine.specs.Altering.{CellPut}
+use Rattle.machine.specs.Places.{byte-fits, counted-fits}
 use Rattle.machine.proofs.change.new_cell.Statement.{statement}
 use Rattle.machine.proofs.change.new_cell.Tie as tie
 
@@ -12,13 +12,21 @@ byte-at-requires : tie.Need-byte-at-requires
 byte-at-requires c κs = tt
 
 cast-set-cell : tie.Need-cast-set-cell
-cast-set-cell c = search needs
+cast-set-cell c =
+    let at-byte-at = c .before in
+    byte-fits (at-byte-at .byte-at .ok)
 
 set-cell-requires : tie.Need-set-cell-requires
-set-cell-requires c κs = search needs
+set-cell-requires c κs =
+    let at-byte-at = c .before in
+    let at-start = c .before .before .before .before .before in
+    (at-start .pre .0, at-byte-at .byte-at .ok)
 
 add-put-byte : tie.Need-add-put-byte
-add-put-byte c = search needs
+add-put-byte c =
+    let at-byte-at = c .before .before .before .before .before in
+    let at-start = c .before .before .before .before .before .before .before .before .before in
+    counted-fits (subst (λ j. j < 255) (sym (at-byte-at .byte-at .ensures)) (at-start .pre .1))
 
 put-byte-requires : tie.Need-put-byte-requires
 put-byte-requires c κs = tt

@@ -1,11 +1,12 @@
 -- `Seeking`, thread after thread.
-use mathlib.Core.Path.{ap, _∙_, sym}
+use mathlib.Core.Path.{ap, sym, _∙_}
 use Prim.Native.Nat.{_-_}
 use lib.ListN.{length}
-use Rattle.machine.specs.Acting.{cardOf}
-use Rattle.machine.specs.Lowest.{Seeking, seeking-start, seeking-on, seeking-made, seeking-none}
-use Rattle.machine.specs.Answering.{Scratch, scratch-kept}
 use Rattle.machine.specs.Places.{byte-fits, next-fits, nearer}
+use Rattle.machine.specs.Acting.{cardOf}
+use Rattle.machine.specs.Answering.{Scratch, scratch-kept}
+use Rattle.machine.specs.Calling.{called}
+use Rattle.machine.specs.Lowest.{Seeking, seeking-start, seeking-on, seeking-made, seeking-none}
 use Rattle.machine.proofs.default_run.step_lowest.Statement.{statement}
 use Rattle.machine.proofs.default_run.step_lowest.Tie as tie
 
@@ -28,67 +29,72 @@ loop-holds c =
     let at-start = c .before .before .before .before .before .before in
     (seeking-start (at-start .pre .0), at-start .pre .1)
 
-call-requires : tie.Need-call-requires Inv-loop μ-loop
-call-requires c κs =
+step-held-requires : tie.Need-step-held-requires Inv-loop μ-loop
+step-held-requires c κs =
     let at-loop = c .before .before .before .before .before in
     (at-loop .loop .inv .0 .held, at-loop .loop .inv .1)
 
+answer-of-requires : tie.Need-answer-of-requires Inv-loop μ-loop
+answer-of-requires c κs = tt
+
 same-length : tie.Need-same-length Inv-loop μ-loop
 same-length c =
-    let at-call = c .before .before .before .before .before .before .before .before .before in
-    let at-loop = c .before .before .before .before .before .before .before .before .before .before .before .before .before .before .before in
-    at-call .call .kept .0 ∙ ap length (at-loop .loop .inv .0 .same)
+    let at-step-held = c .before .before .before .before .before .before .before .before .before .before in
+    let at-loop = c .before .before .before .before .before .before .before .before .before .before .before .before .before .before .before .before in
+    at-step-held .step-held .kept .0 ∙ ap length (at-loop .loop .inv .0 .same)
 
 same-length-2 : tie.Need-same-length-2 Inv-loop μ-loop
 same-length-2 c =
-    let at-call = c .before .before .before .before .before .before .before .before .before in
-    let at-loop = c .before .before .before .before .before .before .before .before .before .before .before .before .before .before .before in
-    let at-start = c .before .before .before .before .before .before .before .before .before .before .before .before .before .before .before .before .before .before .before .before .before .before in
-    at-call .call .kept .1 .1 .1 .0 ∙ at-loop .loop .inv .1 .copy ∙ sym (at-start .pre .1 .copy)
+    let at-step-held = c .before .before .before .before .before .before .before .before .before .before in
+    let at-loop = c .before .before .before .before .before .before .before .before .before .before .before .before .before .before .before .before in
+    let at-start = c .before .before .before .before .before .before .before .before .before .before .before .before .before .before .before .before .before .before .before .before .before .before .before in
+    at-step-held .step-held .kept .1 .1 .1 .0 ∙ at-loop .loop .inv .1 .copy ∙ sym (at-start .pre .1 .copy)
 
 same-length-3 : tie.Need-same-length-3 Inv-loop μ-loop
 same-length-3 c =
-    let at-call = c .before .before .before .before .before .before .before .before .before in
-    let at-loop = c .before .before .before .before .before .before .before .before .before .before .before .before .before .before .before in
-    let at-start = c .before .before .before .before .before .before .before .before .before .before .before .before .before .before .before .before .before .before .before .before .before .before in
-    at-call .call .kept .1 .1 .1 .1 .0 ∙ at-loop .loop .inv .1 .after ∙ sym (at-start .pre .1 .after)
+    let at-step-held = c .before .before .before .before .before .before .before .before .before .before in
+    let at-loop = c .before .before .before .before .before .before .before .before .before .before .before .before .before .before .before .before in
+    let at-start = c .before .before .before .before .before .before .before .before .before .before .before .before .before .before .before .before .before .before .before .before .before .before .before in
+    at-step-held .step-held .kept .1 .1 .1 .1 .0 ∙ at-loop .loop .inv .1 .after ∙ sym (at-start .pre .1 .after)
 
 same-length-4 : tie.Need-same-length-4 Inv-loop μ-loop
 same-length-4 c =
-    let at-call = c .before .before .before .before .before .before .before .before .before in
-    let at-loop = c .before .before .before .before .before .before .before .before .before .before .before .before .before .before .before in
-    let at-start = c .before .before .before .before .before .before .before .before .before .before .before .before .before .before .before .before .before .before .before .before .before .before in
-    at-call .call .kept .1 .1 .1 .1 .1 .0 ∙ at-loop .loop .inv .1 .deep ∙ sym (at-start .pre .1 .deep)
+    let at-step-held = c .before .before .before .before .before .before .before .before .before .before in
+    let at-loop = c .before .before .before .before .before .before .before .before .before .before .before .before .before .before .before .before in
+    let at-start = c .before .before .before .before .before .before .before .before .before .before .before .before .before .before .before .before .before .before .before .before .before .before .before in
+    at-step-held .step-held .kept .1 .1 .1 .1 .1 .0 ∙ at-loop .loop .inv .1 .deep ∙ sym (at-start .pre .1 .deep)
 
 returns : tie.Need-returns Inv-loop μ-loop
 returns c =
     let at-if1 = c in
-    let at-call = c .before .before .before .before .before .before .before .before .before in
-    let at-loop-test = c .before .before .before .before .before .before .before .before .before .before .before .before .before .before in
-    let at-loop = c .before .before .before .before .before .before .before .before .before .before .before .before .before .before .before in
-    let at-byte-at = c .before .before .before .before .before .before .before .before .before .before .before .before .before .before .before .before in
-    seeking-made (at-loop .loop .inv .0) (at-byte-at .byte-at .ensures) (at-loop-test .loop-test .taken) (at-call .call .ensures) (at-if1 .if1 .taken)
+    let at-answer-of = c .before in
+    let at-step-held = c .before .before .before .before .before .before .before .before .before .before in
+    let at-loop-test = c .before .before .before .before .before .before .before .before .before .before .before .before .before .before .before in
+    let at-loop = c .before .before .before .before .before .before .before .before .before .before .before .before .before .before .before .before in
+    let at-byte-at = c .before .before .before .before .before .before .before .before .before .before .before .before .before .before .before .before .before in
+    seeking-made (at-loop .loop .inv .0) (at-byte-at .byte-at .ensures) (at-loop-test .loop-test .taken) (called (at-loop .loop .inv .0 .held) (at-step-held .step-held .ensures) (at-answer-of .answer-of .ensures)) (at-if1 .if1 .taken)
 
 add-i : tie.Need-add-i Inv-loop μ-loop
 add-i c =
-    let at-loop-test = c .before .before .before .before .before .before .before .before .before .before .before .before .before .before in
-    let at-byte-at = c .before .before .before .before .before .before .before .before .before .before .before .before .before .before .before .before in
+    let at-loop-test = c .before .before .before .before .before .before .before .before .before .before .before .before .before .before .before in
+    let at-byte-at = c .before .before .before .before .before .before .before .before .before .before .before .before .before .before .before .before .before in
     next-fits (at-loop-test .loop-test .taken) (byte-fits (at-byte-at .byte-at .ok))
 
 loop-less : tie.Need-loop-less Inv-loop μ-loop
 loop-less c =
-    let at-loop-test = c .before .before .before .before .before .before .before .before .before .before .before .before .before .before in
+    let at-loop-test = c .before .before .before .before .before .before .before .before .before .before .before .before .before .before .before in
     nearer (at-loop-test .loop-test .taken)
 
 loop-again : tie.Need-loop-again Inv-loop μ-loop
 loop-again c =
     let at-if1 = c in
-    let at-call = c .before .before .before .before .before .before .before .before .before in
-    let at-loop-test = c .before .before .before .before .before .before .before .before .before .before .before .before .before .before in
-    let at-loop = c .before .before .before .before .before .before .before .before .before .before .before .before .before .before .before in
-    let at-byte-at = c .before .before .before .before .before .before .before .before .before .before .before .before .before .before .before .before in (
-      seeking-on (at-loop .loop .inv .0) (at-byte-at .byte-at .ensures) (at-loop-test .loop-test .taken) (at-call .call .ensures) (at-if1 .if1 .left),
-      scratch-kept (at-loop .loop .inv .1) (at-call .call .kept .1 .1 .1 .0) (at-call .call .kept .1 .1 .1 .1 .0) (at-call .call .kept .1 .1 .1 .1 .1 .0),
+    let at-answer-of = c .before in
+    let at-step-held = c .before .before .before .before .before .before .before .before .before .before in
+    let at-loop-test = c .before .before .before .before .before .before .before .before .before .before .before .before .before .before .before in
+    let at-loop = c .before .before .before .before .before .before .before .before .before .before .before .before .before .before .before .before in
+    let at-byte-at = c .before .before .before .before .before .before .before .before .before .before .before .before .before .before .before .before .before in (
+      seeking-on (at-loop .loop .inv .0) (at-byte-at .byte-at .ensures) (at-loop-test .loop-test .taken) (called (at-loop .loop .inv .0 .held) (at-step-held .step-held .ensures) (at-answer-of .answer-of .ensures)) (at-if1 .if1 .left),
+      scratch-kept (at-loop .loop .inv .1) (at-step-held .step-held .kept .1 .1 .1 .0) (at-step-held .step-held .kept .1 .1 .1 .1 .0) (at-step-held .step-held .kept .1 .1 .1 .1 .1 .0),
     )
 
 same-length-5 : tie.Need-same-length-5 Inv-loop μ-loop
@@ -130,7 +136,8 @@ step-lowest-spec =
     byte-at-requires
     cast-count
     loop-holds
-    call-requires
+    step-held-requires
+    answer-of-requires
     same-length
     same-length-2
     same-length-3

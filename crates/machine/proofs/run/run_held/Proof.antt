@@ -2,11 +2,12 @@
 use mathlib.Core.Logic.{⊎-elim}
 use mathlib.Core.Path.{sym, _∙_}
 use Prim.Native.Nat.{_-_}
-use Rattle.machine.specs.Acting.{cardOf}
-use Rattle.machine.specs.RunCalls.{CallsMade, calls-start, calls-stepped, calls-refused, calls-end}
-use Rattle.machine.specs.Answering.{Scratch, scratch-kept}
 use borrow.Author.Needs.{needs}
 use Rattle.machine.specs.Places.{byte-fits, nearer}
+use Rattle.machine.specs.Acting.{cardOf}
+use Rattle.machine.specs.Answering.{Scratch, scratch-kept}
+use Rattle.machine.specs.Calling.{called}
+use Rattle.machine.specs.RunCalls.{CallsMade, calls-start, calls-stepped, calls-refused, calls-end}
 use Rattle.machine.proofs.run.run_held.Statement.{statement}
 use Rattle.machine.proofs.run.run_held.Tie as tie
 
@@ -25,15 +26,18 @@ loop-holds c =
 byte-at-requires : tie.Need-byte-at-requires Inv-loop μ-loop
 byte-at-requires c κs = tt
 
-cast-call : tie.Need-cast-call Inv-loop μ-loop
-cast-call c =
+cast-thread : tie.Need-cast-thread Inv-loop μ-loop
+cast-thread c =
     let at-byte-at = c in
     byte-fits (at-byte-at .byte-at .ok)
 
-call-requires : tie.Need-call-requires Inv-loop μ-loop
-call-requires c κs =
+step-held-requires : tie.Need-step-held-requires Inv-loop μ-loop
+step-held-requires c κs =
     let at-loop = c .before .before .before .before .before .before in
     (at-loop .loop .inv .0 .held, at-loop .loop .inv .1)
+
+answer-of-requires : tie.Need-answer-of-requires Inv-loop μ-loop
+answer-of-requires c κs = tt
 
 add-steps : tie.Need-add-steps Inv-loop μ-loop
 add-steps c = search needs
@@ -43,19 +47,21 @@ add-i c = search needs
 
 loop-less : tie.Need-loop-less Inv-loop μ-loop
 loop-less c =
-    let at-loop-test = c .before .before .before .before .before .before .before .before .before .before .before .before .before .before .before in
+    let at-loop-test = c .before .before .before .before .before .before .before .before .before .before .before .before .before .before .before .before in
     nearer (at-loop-test .loop-test .taken)
 
 loop-again : tie.Need-loop-again Inv-loop μ-loop
 loop-again c =
     let at-if1 = c in
-    let at-call = c .before .before .before .before .before .before .before .before .before in
-    let at-byte-at = c .before .before .before .before .before .before .before .before .before .before .before .before .before in
-    let at-loop-test = c .before .before .before .before .before .before .before .before .before .before .before .before .before .before .before in
-    let at-loop = c .before .before .before .before .before .before .before .before .before .before .before .before .before .before .before .before in (
-      ⊎-elim (λ w. calls-stepped (at-loop .loop .inv .0) (at-loop-test .loop-test .taken) (at-byte-at .byte-at .ensures) (at-call .call .ensures) (at-call .call .kept .0) (w .0 .taken) (w .1)) (λ w. calls-refused (at-loop .loop .inv .0) (at-loop-test .loop-test .taken) (at-byte-at .byte-at .ensures) (at-call .call .ensures) (at-call .call .kept .0) (w .0 .left) (w .1)) (at-if1 .if1 .came),
-      scratch-kept (at-loop .loop .inv .1) (at-call .call .kept .1 .1 .1 .0) (at-call .call .kept .1 .1 .1 .1 .0) (at-call .call .kept .1 .1 .1 .1 .1 .0),
-    )
+    let at-answer-of = c .before in
+    let at-step-held = c .before .before .before .before .before .before .before .before .before .before in
+    let at-byte-at = c .before .before .before .before .before .before .before .before .before .before .before .before .before .before .before in
+    let at-loop-test = c .before .before .before .before .before .before .before .before .before .before .before .before .before .before .before .before in
+    let at-loop = c .before .before .before .before .before .before .before .before .before .before .before .before .before .before .before .before .before in
+    let call = called (at-loop .loop .inv .0 .held) (at-step-held .step-held .ensures) (at-answer-of .answer-of .ensures) in
+    let stepped = calls-stepped (at-loop .loop .inv .0) (at-loop-test .loop-test .taken) (at-byte-at .byte-at .ensures) call (at-step-held .step-held .kept .0) in
+    let refused = calls-refused (at-loop .loop .inv .0) (at-loop-test .loop-test .taken) (at-byte-at .byte-at .ensures) call (at-step-held .step-held .kept .0) in
+    (⊎-elim (λ w. stepped (w .0 .taken) (w .1)) (λ w. refused (w .0 .left) (w .1)) (at-if1 .if1 .came), scratch-kept (at-loop .loop .inv .1) (at-step-held .step-held .kept .1 .1 .1 .0) (at-step-held .step-held .kept .1 .1 .1 .1 .0) (at-step-held .step-held .kept .1 .1 .1 .1 .1 .0))
 
 same-length : tie.Need-same-length Inv-loop μ-loop
 same-length c =
@@ -94,8 +100,9 @@ run-held-spec =
     μ-loop
     loop-holds
     byte-at-requires
-    cast-call
-    call-requires
+    cast-thread
+    step-held-requires
+    answer-of-requires
     add-steps
     add-i
     loop-less
