@@ -5,7 +5,6 @@ use mathlib.Core.Path.{refl}
 use native.Mathlib.Nat.{pos-of-ne-zero}
 use native.Mathlib.Omega.{arith}
 use lib.Bits.{bitOr}
-use borrow.Author.Needs.{needs}
 use Rattle.judging.specs.Contract.{due15}
 use Rattle.judging.proofs.binding.Start.{own-read, start-if}
 use Rattle.judging.proofs.typing.One.{less-left, inside, some-left, ready-1, refused-1, some-1, other-1, due-1}
@@ -179,20 +178,20 @@ conditional-met t =
     (skip-requires t)
     (sub-judge t)
     (judge-requires t)
-    (λ c. search needs)
-    (λ c. search needs)
+    (λ c. c .match .keys1)
+    (λ c. c .match .keys2)
     (first-int-requires t)
     (sub-judge-2 t)
     (judge-requires-2 t)
-    (λ c. search needs)
-    (λ c. search needs)
+    (λ c. c .match2 .keys1)
+    (λ c. c .match2 .keys2)
     (second-cond-requires t)
     (sub-judge-3 t)
     (judge-requires-3 t)
-    (λ c. search needs)
-    (λ c. search needs)
+    (λ c. c .match3 .keys1)
+    (λ c. c .match3 .keys2)
     (after-third-requires t)
-    (λ c. search needs)
+    (λ c. returns t c .frame .long)
     (returns t)
     (λ c. returns-2 t c .frame .long)
     (returns-2 t)
@@ -202,5 +201,5 @@ conditional-met t =
     (returns-4 t)
     (λ c. returns-5 t c .frame .long)
     (returns-5 t)
-    (λ c. search needs)
+    (λ c. returns-6 t c .frame .long)
     (returns-6 t)

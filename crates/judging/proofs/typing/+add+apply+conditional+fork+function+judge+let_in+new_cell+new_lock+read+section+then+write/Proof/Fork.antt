@@ -3,7 +3,6 @@ use Prim.Native.Nat.{ℕ}
 use borrow.Fn.Kinds.{In}
 use native.Mathlib.Nat.{pos-of-ne-zero}
 use native.Mathlib.Omega.{arith}
-use borrow.Author.Needs.{needs}
 use Rattle.judging.proofs.typing.One.{less-left, inside, some-left, ready-1, refused-1, some-1, ends-1}
 use Rattle.judging.proofs.typing.Rule.{is-fork, parts-are, beside}
 use Rattle.judging.proofs.typing.+add+apply+conditional+fork+function+judge+let_in+new_cell+new_lock+read+section+then+write.Proof.Measures.{judge-below, rule-at}
@@ -62,10 +61,10 @@ fork-met t =
     (add-p1 t)
     (sub-judge t)
     (judge-requires t)
-    (λ c. search needs)
-    (λ c. search needs)
+    (λ c. c .match .keys1)
+    (λ c. c .match .keys2)
     (first-fork-requires t)
-    (λ c. search needs)
+    (λ c. returns t c .frame .long)
     (returns t)
-    (λ c. search needs)
+    (λ c. returns-2 t c .frame .long)
     (returns-2 t)

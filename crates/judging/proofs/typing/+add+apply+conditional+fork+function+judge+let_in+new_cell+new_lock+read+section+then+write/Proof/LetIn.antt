@@ -4,7 +4,6 @@ use borrow.Fn.Kinds.{In}
 use mathlib.Core.Logic.{inl}
 use native.Mathlib.Nat.{pos-of-ne-zero}
 use native.Mathlib.Omega.{arith}
-use borrow.Author.Needs.{needs}
 use Rattle.judging.proofs.typing.One.{less-left, inside, some-left}
 use Rattle.judging.proofs.typing.Halves.{let-binds, chain-ready-1, chain-refused-1, bindable, chain-ready-2, chain-refused-2, chain-movable, chain-done}
 use Rattle.judging.proofs.typing.+add+apply+conditional+fork+function+judge+let_in+new_cell+new_lock+read+section+then+write.Proof.Measures.{judge-below, rule-at}
@@ -125,21 +124,21 @@ let-in-met t =
     (add-judge t)
     (sub-judge t)
     (judge-requires t)
-    (λ c. search needs)
-    (λ c. search needs)
+    (λ c. c .match .keys1)
+    (λ c. c .match .keys2)
     (bind-requires t)
     (add-judge-2 t)
     (sub-judge-2 t)
     (judge-requires-2 t)
-    (λ c. search needs)
-    (λ c. search needs)
+    (λ c. c .match2 .keys1)
+    (λ c. c .match2 .keys2)
     (sub-slot-of t)
     (slot-of-requires t)
     (slot-of-requires-2 t)
     (copy-requires t)
-    (λ c. search needs)
+    (λ c. returns t c .frame .long)
     (returns t)
-    (λ c. search needs)
+    (λ c. returns-2 t c .frame .long)
     (returns-2 t)
-    (λ c. search needs)
+    (λ c. returns-3 t c .frame .long)
     (returns-3 t)

@@ -4,7 +4,6 @@ use borrow.Fn.Kinds.{In}
 use mathlib.Core.Path.{refl}
 use native.Mathlib.Nat.{pos-of-ne-zero}
 use native.Mathlib.Omega.{arith}
-use borrow.Author.Needs.{needs}
 use Rattle.reading.specs.Walk.{parts}
 use Rattle.judging.proofs.copies.Laws.{end-here}
 use Rattle.judging.proofs.binding.Start.{own-read, start-cell}
@@ -78,10 +77,10 @@ new-cell-met t =
     (skip-requires t)
     (sub-judge t)
     (judge-requires t)
-    (λ c. search needs)
-    (λ c. search needs)
+    (λ c. c .match .keys1)
+    (λ c. c .match .keys2)
     (first-cell-requires t)
-    (λ c. search needs)
+    (λ c. returns t c .frame .long)
     (returns t)
-    (λ c. search needs)
+    (λ c. returns-2 t c .frame .long)
     (returns-2 t)

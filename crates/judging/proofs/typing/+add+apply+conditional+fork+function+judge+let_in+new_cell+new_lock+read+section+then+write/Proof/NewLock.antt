@@ -4,7 +4,6 @@ use borrow.Fn.Kinds.{In}
 use mathlib.Core.Path.{refl}
 use native.Mathlib.Nat.{pos-of-ne-zero}
 use native.Mathlib.Omega.{arith}
-use borrow.Author.Needs.{needs}
 use Rattle.reading.specs.Walk.{parts}
 use Rattle.judging.proofs.typing.One.{less-left, inside, some-left, ready-1, refused-1, some-1, ends-1}
 use Rattle.judging.proofs.typing.Rule.{under-lock, one-part}
@@ -88,10 +87,10 @@ new-lock-met t =
     (add-judge-2 t)
     (sub-judge t)
     (judge-requires t)
-    (λ c. search needs)
-    (λ c. search needs)
+    (λ c. c .match .keys1)
+    (λ c. c .match .keys2)
     (first-lock-requires t)
-    (λ c. search needs)
+    (λ c. returns t c .frame .long)
     (returns t)
-    (λ c. search needs)
+    (λ c. returns-2 t c .frame .long)
     (returns-2 t)

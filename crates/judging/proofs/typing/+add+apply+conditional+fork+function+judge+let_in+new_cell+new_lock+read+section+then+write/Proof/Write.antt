@@ -4,7 +4,6 @@ use borrow.Fn.Kinds.{In}
 use mathlib.Core.Path.{refl}
 use native.Mathlib.Nat.{pos-of-ne-zero}
 use native.Mathlib.Omega.{arith}
-use borrow.Author.Needs.{needs}
 use Rattle.judging.specs.Contract.{due8}
 use Rattle.judging.proofs.typing.One.{less-left, inside, some-left, ready-1, refused-1, some-1, other-1, due-1}
 use Rattle.judging.proofs.typing.Two.{Due2, ready-2, refused-2, some-2, ends-2}
@@ -115,19 +114,19 @@ write-met t =
     (add-p1 t)
     (sub-judge t)
     (judge-requires t)
-    (λ c. search needs)
-    (λ c. search needs)
+    (λ c. c .match .keys1)
+    (λ c. c .match .keys2)
     (first-due-requires t)
     (sub-judge-2 t)
     (judge-requires-2 t)
-    (λ c. search needs)
-    (λ c. search needs)
+    (λ c. c .match2 .keys1)
+    (λ c. c .match2 .keys2)
     (second-write-requires t)
-    (λ c. search needs)
+    (λ c. returns t c .frame .long)
     (returns t)
     (λ c. returns-2 t c .frame .long)
     (returns-2 t)
     (λ c. returns-3 t c .frame .long)
     (returns-3 t)
-    (λ c. search needs)
+    (λ c. returns-4 t c .frame .long)
     (returns-4 t)
