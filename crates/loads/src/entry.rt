@@ -16,7 +16,7 @@ fn lay(state: &mut [u8], size: usize, slot: usize, bytes: &[u8])
 {
     plans::store::blank(state, size);
     plans::store::store(state, 256, slot, 38, bytes);
-    plans::store::put_byte(state, 3, 1);
+    places::put_byte(state, 3, 1);
 }
 
 // An image that was read. Its erased form is shorter than the image, so it fits the local bytes; the state is touched once it is known to fit

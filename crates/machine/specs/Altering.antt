@@ -12,7 +12,8 @@ use Rattle.paper.specs.Steps.{Change}
 use Rattle.laws.specs.StateBytes.{Sound, good-sound}
 use Rattle.plans.specs.ByteAt.{cellsFrom, holds-long}
 use Rattle.plans.specs.Reads.{cells-read, locks-read}
-use Rattle.plans.specs.Store.{Puts, Stores}
+use Rattle.places.specs.Put.{Puts}
+use Rattle.plans.specs.Store.{Stores}
 use Rattle.plans.specs.Rooms.{byte-put, thread-stored, cell-stored}
 use Rattle.plans.specs.Changing.{Else, Named}
 use Rattle.machine.specs.declared.act.Also.{Also}

@@ -12,7 +12,7 @@ use Rattle.paper.specs.Terms.{Term, termBytes}
 use Rattle.paper.specs.States.{Card, State, Holds, Fits}
 use Rattle.paper.specs.Steps.{Change, nothing, newCell, setCell, newLock, taken, released, newThread}
 use Rattle.laws.specs.StateBytes.{Sound, good-sound}
-use Rattle.plans.specs.Cases.{side}
+use Rattle.places.specs.Cases.{side}
 use Rattle.plans.specs.Shows.{slot-end}
 use Rattle.plans.specs.Reads.{thread-read}
 use Rattle.plans.specs.Store.{Outside, Stored, Stores}

@@ -16,7 +16,7 @@ use Rattle.laws.specs.Lists.{all-get, spliced}
 use Rattle.laws.specs.Good.{good-whole}
 use Rattle.laws.specs.Keeping.{here-at}
 use Rattle.laws.specs.StateBytes.{good-sound}
-use Rattle.plans.specs.Cases.{side}
+use Rattle.places.specs.Cases.{side}
 use Rattle.plans.specs.Reads.{Filled, thread-read}
 use Rattle.plans.specs.Store.{Stores}
 use Rattle.plans.specs.Exchange.{Exchanges}

@@ -7,8 +7,8 @@ ghost use Rattle.machine.specs.Acting.{cardOf};
 ghost use Rattle.machine.specs.Altering.{CellPut, ThreadAdded, CellAdded, Altering, Alters};
 use crate::act::Also;
 use crate::act::Card;
-use plans::store::byte_at;
-use plans::store::put_byte;
+use places::byte_at;
+use places::put_byte;
 use plans::store::store;
 
 fn set_cell(state: &mut [u8], card: Card, j: usize, bytes: &[u8])

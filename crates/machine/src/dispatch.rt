@@ -20,7 +20,7 @@ use crate::kinds::release;
 use crate::kinds::take;
 use crate::kinds::went_on;
 use crate::kinds::write;
-use plans::store::byte_at;
+use places::byte_at;
 use slots::walk::skip;
 
 // Where the part behind the first begins: e, if that is known.

@@ -9,8 +9,8 @@ ghost use Rattle.machine.specs.Kinds.{Applied, LetBound, LockMade, CellM
 ghost use Rattle.machine.specs.Kinds.{LockTaken, LockReleased, WentOn, Added, Branched};
 use crate::act::Act;
 use crate::act::Also;
-use plans::store::byte_at;
-use plans::store::two_at;
+use places::byte_at;
+use places::two_at;
 use slots::put::put;
 use writing::fill;
 use writing::fill_both;

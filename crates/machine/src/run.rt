@@ -9,7 +9,7 @@ use crate::act::SIXTEEN;
 use crate::numbers::answer_of;
 use crate::step::Step;
 use crate::step::step_held;
-use plans::store::byte_at;
+use places::byte_at;
 
 pub struct Ran {
     pub steps: usize,

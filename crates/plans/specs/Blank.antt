@@ -8,7 +8,7 @@ use lib.ListN.{length, set, take, drop, replicate, length-set, length-replicate}
 use lib.Seq.{ext-getD, getD-drop, getD-set-same, getD-set-other, length-take-le}
 use Rattle.zeros.specs.First.{first-length}
 use Rattle.paper.specs.Base.{at}
-use Rattle.plans.specs.Cases.{side}
+use Rattle.places.specs.Cases.{side}
 use Rattle.plans.specs.Slots.{at-before, at-behind, zeros-at}
 
 -- the first `size` bytes are that, and the rest is as it was

@@ -13,7 +13,7 @@ use Rattle.paper.specs.Steps.{Change, nothing, newCell, setCell, newLock, taken
 use Rattle.laws.specs.StateBytes.{Sound, good-sound}
 use Rattle.laws.specs.Seats.{seat-end}
 use Rattle.plans.specs.Shows.{Shows, holds-shows, shows-holds}
-use Rattle.plans.specs.Store.{Put}
+use Rattle.places.specs.Put.{Put}
 use Rattle.plans.specs.Holding.{ThreadStored, CellStored, snoc-length, thread-set, thread-made, cell-set, cell-made, mark-set, lock-made}
 
 -- the stores of a change, beside that of thread i: what is made gets the next number, then its count is raised

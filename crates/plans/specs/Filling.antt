@@ -13,7 +13,7 @@ use Rattle.paper.specs.Calls.{laid}
 use Rattle.laws.specs.CallLaws.{laid-length}
 use Rattle.laws.specs.SlotBytes.{pad-length}
 use Rattle.plans.specs.Slots.{at-before, at-behind, pad-at}
-use Rattle.plans.specs.Cases.{side}
+use Rattle.places.specs.Cases.{side}
 use Rattle.plans.specs.Store.{Room, Stored}
 
 -- the first i bytes are those of f, and the rest is as it was

@@ -12,9 +12,9 @@ use Rattle.paper.specs.Base.{at, word16}
 use Rattle.paper.specs.Terms.{Term}
 use Rattle.paper.specs.States.{Card, State, total, good, Holds, Fits}
 use Rattle.laws.specs.StateBytes.{good-sound}
-use Rattle.plans.specs.Cases.{side}
+use Rattle.places.specs.Cases.{side}
 use Rattle.plans.specs.Slots.{text, text-past, half, half-zero}
-use Rattle.plans.specs.Clear.{clearBytes, clear-range, range-clear}
+use Rattle.places.specs.Clear.{clearBytes, clear-range, range-clear}
 use Rattle.plans.specs.ByteAt.{cellsFrom}
 use Rattle.plans.specs.Shows.{Slotted, slotted-lengths, Shows, shows-holds}
 use Rattle.plans.specs.Reads.{Filled, shows, thread-slot, cell-slot}

@@ -10,11 +10,12 @@ use lib.Seq.{getD-set-same, getD-set-other}
 use Rattle.paper.specs.Base.{at}
 use Rattle.paper.specs.Terms.{Term, termBytes}
 use Rattle.paper.specs.States.{Card, State, Fits}
-use Rattle.plans.specs.Cases.{same?}
+use Rattle.places.specs.Cases.{same?}
 use Rattle.plans.specs.Slots.{text, zeros-after, text-set, text-set-other, text-end, text-end-other}
 use Rattle.plans.specs.ByteAt.{cellsFrom}
 use Rattle.plans.specs.Shows.{slot-end, Counts, Contents, Shows}
-use Rattle.plans.specs.Store.{Put, Stored}
+use Rattle.places.specs.Put.{Put}
+use Rattle.plans.specs.Store.{Stored}
 use Rattle.plans.specs.Slotting.{slotted-same, slotted-stored}
 
 -- a thread's and a cell's bytes are stored in its slot

@@ -16,7 +16,7 @@ use Rattle.paper.specs.Calls.{laid}
 use Rattle.laws.specs.StateBytes.{Sound, good-sound, plan-length}
 use Rattle.laws.specs.Seats.{seat-end}
 use Rattle.plans.specs.Shows.{slot-end}
-use Rattle.plans.specs.Store.{Put}
+use Rattle.places.specs.Put.{Put}
 use Rattle.plans.specs.Holding.{ThreadStored, CellStored, snoc-length}
 use Rattle.plans.specs.Changing.{Else, Named, changed-holds}
 

@@ -1,7 +1,5 @@
 -- ---- a state's bytes, by place and by number
-pub mod Cases
 pub mod Slots
-pub mod Clear
 pub mod ByteAt
 pub mod Shows
 -- ---- read off a buffer that holds a state, and found in one that may

@@ -12,7 +12,7 @@ use Rattle.paper.specs.Calls.{laid}
 use Rattle.plans.specs.Slots.{text}
 use Rattle.plans.specs.ByteAt.{cellsFrom}
 use Rattle.plans.specs.Shows.{slot-end, Shows, shows-holds}
-use Rattle.plans.specs.Store.{Put}
+use Rattle.places.specs.Put.{Put}
 use Rattle.plans.specs.Blank.{Blanked, Blanks}
 use Rattle.plans.specs.Holding.{ThreadStored, thread-made}
 use Rattle.plans.specs.Laying.{beyond-then, put-beyond, thread-beyond, laid-is}

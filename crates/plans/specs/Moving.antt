@@ -13,7 +13,7 @@ use Rattle.paper.specs.Calls.{laid}
 use Rattle.laws.specs.Lists.{spliced}
 use Rattle.laws.specs.SlotBytes.{pad-length}
 use Rattle.plans.specs.Slots.{at-before, at-behind, zeros-at, pad-at}
-use Rattle.plans.specs.Cases.{side, same?}
+use Rattle.places.specs.Cases.{side, same?}
 use Rattle.plans.specs.Store.{Room, twoPut}
 use Rattle.plans.specs.Filling.{back, back-length, back-before, back-in, back-behind, stored-made}
 use Rattle.plans.specs.Exchange.{exchanged, Inside, Exchanges}

@@ -7,7 +7,8 @@ use Rattle.paper.specs.Terms.{Term, termBytes}
 use Rattle.paper.specs.States.{Card, total, Fits}
 use Rattle.plans.specs.ByteAt.{cellsFrom}
 use Rattle.plans.specs.Shows.{slot-end}
-use Rattle.plans.specs.Store.{Put, Puts, Stores}
+use Rattle.places.specs.Put.{Put, Puts}
+use Rattle.plans.specs.Store.{Stores}
 use Rattle.plans.specs.Holding.{ThreadStored, CellStored}
 
 module _ (card : Card) (fits : Fits card) {s r : List ℕ} (long : total card ≤ length s) where

@@ -12,7 +12,7 @@ use borrow.Author.Tests.{lt-ltb, le-ltb}
 use Rattle.paper.specs.Base.{at, bytes2}
 use Rattle.paper.specs.Terms.{Term}
 use Rattle.paper.specs.States.{Card, State, total, good, Holds, Fits}
-use Rattle.plans.specs.Cases.{side}
+use Rattle.places.specs.Cases.{side}
 use Rattle.plans.specs.Slots.{text, half}
 use Rattle.plans.specs.ByteAt.{cellsFrom, top, byteAt, some-byte, holds-at, at-holds, holds-long}
 

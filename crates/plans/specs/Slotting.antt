@@ -8,7 +8,7 @@ use native.Mathlib.Omega.{arith}
 use lib.ListN.{length}
 use Rattle.paper.specs.Base.{at}
 use Rattle.paper.specs.Terms.{Term}
-use Rattle.plans.specs.Cases.{side, same?}
+use Rattle.places.specs.Cases.{side, same?}
 use Rattle.plans.specs.Slots.{text}
 use Rattle.plans.specs.Shows.{Slotted, slot-end}
 use Rattle.plans.specs.Store.{Outside, Stored}

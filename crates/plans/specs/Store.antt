@@ -1,24 +1,14 @@
--- What a store does to a buffer: one byte, or a slot with its length. Only the places named change.
+-- What a store does to a buffer: a slot with its length. Only the places named change.
 use mathlib.Core.Path.{_≡_, sym, ap, _∙_}
 use mathlib.Core.Logic.{_⊎_, inl, inr, _≢_}
 use mathlib.Core.Bool.{Bool, true, false, true≢false}
 use mathlib.Core.List.{List}
 use Prim.Native.Nat.{ℕ, _+_, _-_, _/_, _%_, _<_, _≤_}
 use native.Mathlib.Omega.{arith}
-use lib.ListN.{length, set, length-set, List·getD-eq-default}
-use lib.Seq.{ext-getD, getD-set-same, getD-set-other}
-use Rattle.paper.specs.Base.{at, word16}
-use Rattle.plans.specs.Cases.{side, same?}
-
--- no number stands past the end
-pub word-past : (s : List ℕ) (k : ℕ) → length s ≤ k → 0 ≡ word16 s k
-word-past s k h = omega (arith, List·getD-eq-default s 0 h, List·getD-eq-default s 0 {n = k + 1} (omega arith))
-
--- the byte at k is b, and all else is as it was
-pub record Put (k b : ℕ) (before after : List ℕ) : Type 0 where
-  pub kept : length after ≡ length before
-  pub here : at after k ≡ b
-  pub other : (j : ℕ) → j ≢ k → at after j ≡ at before j
+use lib.ListN.{length, set}
+use lib.Seq.{ext-getD}
+use Rattle.paper.specs.Base.{at}
+use Rattle.places.specs.Cases.{side, same?}
 
 -- outside of the `size` places from base on
 abbrev pub Outside : ℕ → ℕ → ℕ → Type 0
@@ -32,19 +22,7 @@ pub record Stored (base size place : ℕ) (x before after : List ℕ) : Type 0 w
   pub low : at after (place + 1) ≡ length x % 256
   pub other : (k : ℕ) → Outside base size k → k ≢ place → k ≢ place + 1 → at after k ≡ at before k
 
--- ---- one byte
-
-pub put-set : (k b : ℕ) (s : List ℕ) → k < length s → Put k b s (set s k b)
-put-set k b s h = record { kept = length-set s k b; here = getD-set-same s k b 0 h; other = λ j n. getD-set-other s k j b 0 n }
-
--- ---- each fixes what is left
-
-pub put-one : (k b : ℕ) (s r t : List ℕ) → Put k b s r → Put k b s t → r ≡ t
-put-one k b s r t p q = ext-getD 0 r t (p .kept ∙ sym (q .kept)) (λ j h. go j (same? j k))
-  where
-    go : (j : ℕ) → (j ≡ k) ⊎ (j ≢ k) → at r j ≡ at t j
-    go j (inl e) = rw e (p .here ∙ sym (q .here))
-    go j (inr n) = p .other j n ∙ sym (q .other j n)
+-- ---- it fixes what is left
 
 pub stored-one : (base size place : ℕ) (x s r t : List ℕ) → Stored base size place x s r → Stored base size place x s t → r ≡ t
 stored-one base size place x s r t p q = ext-getD 0 r t (p .kept ∙ sym (q .kept)) (λ k h. go k (same? k place) (same? k (place + 1)) (side k base) (side k (base + size)))
@@ -62,10 +40,6 @@ stored-one base size place x s r t p q = ext-getD 0 r t (p .kept ∙ sym (q .kep
     go k (inr m) (inr n) (inr l) (inr u) = outside k (inr u) m n
 
 -- ---- what the code does on all input: the store where it is within the buffer, and nothing otherwise
-
-pub record Puts (k b : ℕ) (before after : List ℕ) : Type 0 where
-  pub made : k < length before → Put k b before after
-  pub still : length before ≤ k → after ≡ before
 
 -- the bytes fit the slot, the slot the buffer, and the length stands before it
 pub record Room (base size place : ℕ) (x before : List ℕ) : Type 0 where
@@ -88,14 +62,6 @@ no-room n = record { none = λ e. n; room = λ e. absurd (true≢false e) }
 pub record Stores (base size place : ℕ) (x before after : List ℕ) : Type 0 where
   pub made : Room base size place x before → Stored base size place x before after
   pub still : (Room base size place x before → ⊥) → after ≡ before
-
--- both fix what is left
-pub puts-one : (k b : ℕ) (s r t : List ℕ) → Puts k b s r → Puts k b s t → r ≡ t
-puts-one k b s r t p q = go (side k (length s))
-  where
-    go : (k < length s) ⊎ (length s ≤ k) → r ≡ t
-    go (inl h) = put-one k b s r t (p .made h) (q .made h)
-    go (inr h) = p .still h ∙ sym (q .still h)
 
 room? : (base size place : ℕ) (x before : List ℕ) → Room base size place x before ⊎ (Room base size place x before → ⊥)
 room? base size place x before = go (side size (length x)) (side (length before) (base + size)) (side base (place + 2))

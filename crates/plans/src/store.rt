@@ -1,57 +1,16 @@
-// Bytes, lengths and slots of a lent buffer. The places and sizes are the caller's, so that every card is served. Each function is total: what
-// would reach past the buffer reads as 0 and writes nothing.
+// Slots of a lent buffer and their lengths. The places and sizes are the caller's, so that every card is served. Each function is total: what would
+// reach past the buffer writes nothing.
 ghost use mathlib.Core.Path.{_≡_};
 ghost use Prim.Native.Nat.{_+_, _≤_, max};
 ghost use lib.ListN.{length, take};
-ghost use Rattle.paper.specs.Base.{at, word16};
 ghost use Rattle.paper.specs.States.{pad};
 ghost use Rattle.paper.specs.Calls.{laid};
 ghost use Rattle.laws.specs.Lists.{spliced};
-ghost use Rattle.plans.specs.Clear.{clearBytes};
-ghost use Rattle.plans.specs.Store.{Puts, NoRoom, Stores, twoPut};
+ghost use Rattle.plans.specs.Store.{NoRoom, Stores, twoPut};
 ghost use Rattle.plans.specs.Blank.{Blanks};
 ghost use Rattle.plans.specs.Exchange.{Exchanges};
 ghost use Rattle.plans.specs.Moving.{Moved, Rewritable};
 use zeros::clear;
-
-pub fn byte_at(s: &[u8], k: usize) -> u8
-    ensures { λ r. ⌜ r ≡ at (now (s .entry)) k ⌝ }
-{
-    if k < s.len() { s[k] } else { 0 }
-}
-
-// The number that the two bytes at k say.
-pub fn two_at(s: &[u8], k: usize) -> usize
-    ensures { λ r. ⌜ r ≡ word16 (now (s .entry)) k ⌝ }
-{
-    if s.len() <= k {
-        return 0;
-    }
-    let high = s[k] as usize;
-    let low = byte_at(s, k + 1) as usize;
-    high * 256 + low
-}
-
-pub fn put_byte(s: &mut [u8], k: usize, b: u8)
-    ensures { λ _. ⌜ Puts k b (now (s .entry)) (now (s .exit)) ⌝ }
-{
-    if k < s.len() {
-        s[k] = b;
-    }
-}
-
-// Whether there is no byte but 0. All are looked at, so that many can be at once.
-pub fn is_clear(part: &[u8]) -> bool
-    ensures { λ r. ⌜ r ≡ clearBytes (now (part .entry)) ⌝ }
-{
-    let mut clear = true;
-    for i in 0..part.len() {
-        if part[i] != 0 {
-            clear = false;
-        }
-    }
-    clear
-}
 
 fn copy(part: &mut [u8], bytes: &[u8])
     requires { ⌜ length (now bytes) ≤ length (now part) ⌝ }

@@ -7,7 +7,7 @@ use Prim.Native.Nat.{ℕ, zero, suc, _+_, _*_, _-_, _<_, _≤_}
 use native.Mathlib.Omega.{arith}
 use lib.ListN.{length}
 use Rattle.paper.specs.Base.{word16}
-use Rattle.plans.specs.Cases.{side}
+use Rattle.places.specs.Cases.{side}
 use Rattle.slots.specs.Way.{aimOf}
 use Rattle.states.specs.declared.races.Race.{Race}
 use Rattle.states.specs.declared.races.Race.the-variants.{Between, NoRace, BufferShort, NoState}

@@ -10,7 +10,7 @@ use lib.Seq.{ext-getD, getD-take, getD-drop, length-take-le}
 use borrow.Author.Tests.{not-false}
 use Rattle.paper.specs.Base.{at}
 use Rattle.paper.specs.States.{Card, total}
-use Rattle.plans.specs.Clear.{clearBytes, clear-at, at-clear}
+use Rattle.places.specs.Clear.{clearBytes, clear-at, at-clear}
 use Rattle.plans.specs.Filling.{Filling}
 use Rattle.plans.specs.ByteAt.{cellsFrom}
 use Rattle.states.specs.Decides.{Decides, denied, failed, passed, answered, instead}

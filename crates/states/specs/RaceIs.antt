@@ -23,7 +23,7 @@ use Rattle.laws.specs.Cards.{sixteen-fits, sixteen-total}
 use Rattle.laws.specs.CallLaws.{race-call, race-short, race-foreign}
 use Rattle.laws.specs.CaseLaws.{race-injective}
 use Rattle.laws.specs.Races.{Pair, NoLater, earlier, together, Found, found, none-there, races}
-use Rattle.plans.specs.Cases.{side}
+use Rattle.places.specs.Cases.{side}
 use Rattle.plans.specs.Reads.{threads-read, thread-read}
 use Rattle.slots.specs.Way.{aimOf, aimNumber}
 use Rattle.slots.specs.WayTerm.{aims, aim-cell}

@@ -10,7 +10,7 @@ use borrow.Author.Count.{below-more}
 use borrow.Author.Tests.{not-false}
 use Rattle.paper.specs.Base.{word16}
 use Rattle.laws.specs.Tests.{no-true}
-use Rattle.plans.specs.Clear.{clearBytes, clear-range, range-clear}
+use Rattle.places.specs.Clear.{clearBytes, clear-range, range-clear}
 use Rattle.slots.specs.Slot.{ThreadSlot, CellSlot, threadTest, threadMarks, cellTest}
 use Rattle.states.specs.Decides.{Decides, decided, denied, failed, passed, answered, instead}
 use Rattle.states.specs.Rows.{Zeros, inSlot, Framed, IsThread, ThreadRow, IsCell, CellRow, marksAfter, ThreadAt, CellAt, ThreadRows, CellRows}

@@ -10,7 +10,7 @@ use lib.Seq.{getD-take, getD-drop, length-take-le}
 use Rattle.paper.specs.Base.{at, word16, Bytes}
 use Rattle.paper.specs.Terms.{Term}
 use Rattle.laws.specs.Lists.{all-places}
-use Rattle.plans.specs.Cases.{side}
+use Rattle.places.specs.Cases.{side}
 use Rattle.plans.specs.Slots.{text, text-past, half, half-zero}
 use Rattle.plans.specs.ByteAt.{some-byte}
 use Rattle.plans.specs.Shows.{Slotted, slot-end, slotted-lengths}

@@ -15,7 +15,7 @@ use Rattle.laws.specs.Tests.{no-true}
 use Rattle.laws.specs.Lists.{All, all-nil, all-cons, all-get, all-getD, all-map, get-getD}
 use Rattle.laws.specs.Whole.{Whole}
 use Rattle.laws.specs.Good.{InRoom, count-opened, good-fits, good-whole}
-use Rattle.plans.specs.Cases.{side}
+use Rattle.places.specs.Cases.{side}
 use Rattle.plans.specs.ByteAt.{cellsFrom}
 use Rattle.plans.specs.Reads.{shows, thread-read, cell-read}
 use Rattle.plans.specs.Finding.{Found, holds-found}

@@ -8,7 +8,7 @@ ghost use Rattle.states.specs.RaceIs.{Raced};
 use crate::plan::is_state_of;
 use crate::races::Race;
 use crate::races::first_pair;
-use plans::store::byte_at;
+use places::byte_at;
 
 // Whether the buffer's first 49,408 bytes are a state.
 pub fn is_state(state: &[u8]) -> bool

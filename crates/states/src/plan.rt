@@ -9,9 +9,9 @@ ghost use Rattle.states.specs.Tested.{Header, Within, Unused, Ready, Pla
 use crate::rows::are_cells;
 use crate::rows::are_threads;
 use crate::rows::clear_between;
-use plans::store::byte_at;
-use plans::store::is_clear;
-use plans::store::two_at;
+use places::byte_at;
+use places::is_clear;
+use places::two_at;
 
 // Whether the first six bytes are those of a plan of `size` bytes, with counts within the card.
 fn is_header(s: &[u8], size: usize, threads: usize, cells: usize, locks: usize) -> bool

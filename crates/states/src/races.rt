@@ -1,7 +1,7 @@
 // The race finder (document 01, "The running state"): the first pair of threads that are about to read or write one cell.
 ghost use Rattle.slots.specs.Way.{Aim};
 ghost use Rattle.states.specs.Pairs.{threadText, ThreadIn, ThreadsIn, aimBy, PairIs};
-use plans::store::two_at;
+use places::two_at;
 use slots::way::aim;
 
 pub enum Race {

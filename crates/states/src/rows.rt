@@ -4,8 +4,8 @@ ghost use Prim.Native.Nat.{_+_, _≤_};
 ghost use lib.ListN.{length};
 ghost use Rattle.states.specs.Decides.{Decides};
 ghost use Rattle.states.specs.Rows.{Zeros, Framed, Room, Rooms, ThreadRow, ThreadRows, CellRow, CellRows};
-use plans::store::is_clear;
-use plans::store::two_at;
+use places::is_clear;
+use places::two_at;
 use slots::sections::cell_slot;
 use slots::sections::thread_slot;
 

@@ -13,7 +13,7 @@ use Rattle.paper.specs.Verdict.{refused}
 use Rattle.paper.specs.States.{sixteen}
 use Rattle.paper.specs.Texts.{judgeLine, imageLength, trial, trialText}
 use Rattle.laws.specs.Verdicts.{long-refused}
-use Rattle.plans.specs.Cases.{side}
+use Rattle.places.specs.Cases.{side}
 
 long-trial : (s schedule : List ℕ) → 4096 < length s → trial sixteen s schedule ≡ judgeLine (refused 2 0)
 unfolding trial

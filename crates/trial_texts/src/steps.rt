@@ -2,7 +2,7 @@
 use crate::lines::race_line;
 use crate::lines::three;
 use machine::step::Step;
-use plans::store::byte_at;
+use places::byte_at;
 use states::races::Race;
 ghost use Prim.Native.Nat.{_+_, _*_};
 ghost use lib.ListN.{length};

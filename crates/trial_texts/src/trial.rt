@@ -4,7 +4,7 @@ use crate::steps::default_text;
 use crate::steps::schedule_text;
 use loads::entry::Loaded;
 use loads::entry::raw_load;
-use plans::store::two_at;
+use places::two_at;
 use texts::entry::Text;
 use texts::entry::judge_text;
 use zeros::clear;

@@ -20,7 +20,8 @@ use Rattle.laws.specs.Whole.{Whole}
 use Rattle.laws.specs.Good.{good-is, good-fits}
 use Rattle.laws.specs.Images.{image-at}
 use Rattle.plans.specs.Shows.{slot-end}
-use Rattle.plans.specs.Store.{Stored, Stores, Puts}
+use Rattle.places.specs.Put.{Puts}
+use Rattle.plans.specs.Store.{Stored, Stores}
 use Rattle.plans.specs.Blank.{Blanks}
 use Rattle.plans.specs.Holding.{ThreadStored}
 use Rattle.plans.specs.Loading.{blanked, start-laid}

@@ -16,7 +16,7 @@ use Rattle.types.specs.Told.{told}
 use Rattle.types.specs.Contract.{StatedRead}
 use Rattle.types.proofs.stated.Agree.{stated-told}
 use Rattle.types.proofs.stated.Laws.{stated-ended}
-use Rattle.plans.specs.Cases.{side}
+use Rattle.places.specs.Cases.{side}
 use Rattle.loads.specs.Steps.{TypeHere, TypePassed}
 
 module _ (s : List ℕ) (i : ℕ) where

@@ -3,7 +3,7 @@ use mathlib.Core.Path.{subst, sym}
 use Prim.Native.Nat.{_+_, _<_}
 use native.Mathlib.Nat.{le-of-lt}
 use lib.Dec.{lit<}
-use Rattle.plans.specs.Store.{Puts}
+use Rattle.places.specs.Put.{Puts}
 use Rattle.machine.specs.Altering.{new-cell-cut, new-cell-few, set-cell-cut, set-cell-low, new-lock-few, taken-low, released-low, new-thread-cut, new-thread-few}
 use Rattle.machine.specs.Altering.{altered, alters-nothing, alters-new-cell, alters-set-cell, alters-new-lock, alters-taken, alters-released, alters-new-thread}
 use Rattle.machine.specs.Places.{byte-from, counted-fits}

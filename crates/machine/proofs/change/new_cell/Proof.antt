@@ -1,7 +1,7 @@
 -- The count that was read is the state's.
 use mathlib.Core.Path.{subst, _∙_, sym}
 use Prim.Native.Nat.{_+_, _<_}
-use Rattle.plans.specs.Store.{Puts}
+use Rattle.places.specs.Put.{Puts}
 use Rattle.machine.specs.Acting.{cardOf}
 use Rattle.machine.specs.Altering.{CellPut}
 use Rattle.machine.specs.Places.{byte-fits, counted-fits}

@@ -3,10 +3,10 @@ use mathlib.Core.Path.{sym, subst}
 use mathlib.Core.Logic.{⊎-elim}
 use Prim.Native.Nat.{_-_}
 use lib.ListN.{length}
-use Rattle.plans.specs.Clear.{ClearTo, clear-none, clear-off, clear-on, clear-end}
+use Rattle.places.specs.Clear.{ClearTo, clear-none, clear-off, clear-on, clear-end}
 use borrow.Author.Needs.{needs}
-use Rattle.plans.proofs.store.is_clear.Statement.{statement}
-use Rattle.plans.proofs.store.is_clear.Tie as tie
+use Rattle.places.proofs.is_clear.Statement.{statement}
+use Rattle.places.proofs.is_clear.Tie as tie
 
 abbrev Inv-loop : tie.InvT-loop
 Inv-loop part clear₀ i₀ i-end clear i = ClearTo part i clear

@@ -1,10 +1,10 @@
 -- One store, if there is such a place.
 use mathlib.Core.Path.{refl}
 use native.Mathlib.Omega.{arith}
-use Rattle.plans.specs.Store.{put-set}
+use Rattle.places.specs.Put.{put-set}
 use borrow.Author.Needs.{needs}
-use Rattle.plans.proofs.store.put_byte.Statement.{statement}
-use Rattle.plans.proofs.store.put_byte.Tie as tie
+use Rattle.places.proofs.put_byte.Statement.{statement}
+use Rattle.places.proofs.put_byte.Tie as tie
 
 slice-write-s : tie.Need-slice-write-s
 slice-write-s c = search needs

@@ -1,9 +1,9 @@
 -- Two bytes make less than 65,536; past the end both are 0.
 use native.Mathlib.Omega.{arith}
-use Rattle.plans.specs.Store.{word-past}
+use Rattle.places.specs.Put.{word-past}
 use borrow.Author.Needs.{needs}
-use Rattle.plans.proofs.store.two_at.Statement.{statement}
-use Rattle.plans.proofs.store.two_at.Tie as tie
+use Rattle.places.proofs.two_at.Statement.{statement}
+use Rattle.places.proofs.two_at.Tie as tie
 
 returns : tie.Need-returns
 returns c = word-past (c .before .before .args .s .now) (c .before .before .args .k) (c .if1 .taken)

@@ -11,7 +11,7 @@ use borrow.Author.Tests.{eqb-true, eq-eqb}
 use Rattle.paper.specs.Base.{at}
 use Rattle.paper.specs.States.{all}
 use borrow.Author.Count.{below-more}
-use Rattle.laws.specs.Tests.{split, no-true}
+use Rattle.paper.specs.Known.{no-true, split}
 
 unfoldable pub clearBytes : List ℕ → Bool
 clearBytes s = all (eqb 0) s
