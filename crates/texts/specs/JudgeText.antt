@@ -101,18 +101,20 @@ pub judge-text-unique : {image w o : List ℕ} {r q : Text} {w′ w″ o′ o″
     → (r ≡ q) × (w′ ≡ w″) × (o′ ≡ o″)
 judge-text-unique {r = r} {q = q} h k = (same-answer r q (h .says ∙ sym (k .says)), h .work ∙ sym (k .work), h .out ∙ sym (k .out))
 
--- ---- the bytes that were written are the image's line
+-- ---- a text that stands first in a buffer
 
 pub record Shown (text : List ℕ) (n : ℕ) (after : List ℕ) : Type 0 where
   pub inside : n ≤ length after
   pub line : take n after ≡ text
 
--- a text laid first in a buffer stands there
+-- laid there, it stands there
 pub laid-shown : (text before after : List ℕ) (n : ℕ) → after ≡ laid text before → length text ≡ n → Shown text n after
 unfolding laid
 laid-shown text before after n f z =
     let k = ap length f ∙ length-append text (drop (length text) before) in
     record { inside = omega arith; line = rw f (take-at text (drop (length text) before) n z) }
+
+-- ---- what the answer tells of the buffers
 
 -- the line was written: there was room for the judge's work, which is zeroed
 pub record Lined (image w o : List ℕ) (n : ℕ) (w′ o′ : List ℕ) : Type 0 where
@@ -127,11 +129,11 @@ pub record Unlined (w o w′ o′ : List ℕ) : Type 0 where
   pub same-work : w′ ≡ w
   pub same-out : o′ ≡ o
 
-pub data Either (image w o : List ℕ) (w′ o′ : List ℕ) : Text → Type 0 where
+data Either (image w o : List ℕ) (w′ o′ : List ℕ) : Text → Type 0 where
   lined : {n : ℕ} → Lined image w o n w′ o′ → Either image w o w′ o′ (Written n)
   unlined : Unlined w o w′ o′ → Either image w o w′ o′ ShortBuffer
 
-pub either-way : {image w o w′ o′ : List ℕ} {r : Text} → JudgeTexts image w o r w′ o′ → Either image w o w′ o′ r
+either-way : {image w o w′ o′ : List ℕ} {r : Text} → JudgeTexts image w o r w′ o′ → Either image w o w′ o′ r
 either-way {image} {w} {o} {w′} {o′} {r} h = by (ltb (length w) 40960) (ltb (length o) 520) refl refl
   where
     short : judgeTextCall image w o ≡ still image w o → (length w < 40960) ⊎ (length o < 520) → Either image w o w′ o′ r
@@ -164,5 +166,6 @@ no-line {image} {w} {o} {w′} {o′} h e = by (subst (Either image w o w′ o�
     by : Either image w o w′ o′ ShortBuffer → Unlined w o w′ o′
     by (unlined l) = l
 
+-- the bytes that were written are the image's line
 pub written : {image w o w′ o′ : List ℕ} {r : Text} {n : ℕ} → JudgeTexts image w o r w′ o′ → r ≡ Written n → Shown (judgeText image) n o′
 written {image} {o = o} {o′ = o′} {n = n} h e = let l = written-line h e in laid-shown (judgeText image) o o′ n (l .bytes) (sym (l .all))

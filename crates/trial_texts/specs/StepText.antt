@@ -120,15 +120,15 @@ module _ {s out : List ℕ} {at i : ℕ} {s′ : List ℕ} (w : Ready 23 s out a
     line-room : Room out at (three i k n)
     line-room = let l = line-length in let h = w .space in omega arith
 
-    module _ {out₁ : List ℕ} {next : ℕ} (v : Written (take at out ++ three i k n) out out₁ next) where
-      p : Put out out₁ at (three i k n) next
-      p = written-put line-room v
+    module _ {out₁ : List ℕ} {next : ℕ} (wrote : Written (take at out ++ three i k n) out out₁ next) where
+      line : Put out out₁ at (three i k n) next
+      line = written-put line-room wrote
 
       pub race-ready : Ready 14 s′ out₁ next
       race-ready = record {
         held = moved .after;
         bench = moved .bench;
-        space = let l = line-length in let h = w .space in let e = p .end in let f = put-length p in omega arith;
+        space = let l = line-length in let h = w .space in let e = line .end in let f = put-length line in omega arith;
       }
 
       pub tries-made : {out′ : List ℕ} {made found : Bool} {end : ℕ} → Races s′ out₁ next out′ made found end
@@ -145,6 +145,6 @@ module _ {s out : List ℕ} {at i : ℕ} {s′ : List ℕ} (w : Ready 23 s out a
               by : {T : State} → Bench s′ T → (o : Option Race) → race 0 (T .threads) ≡ o → {f : Bool} {e : ℕ} → Raced out₁ out′ next o f e
                   → Told S s′ out out′ at (some (made-in T)) true f e
               by {T} b (some r) e (between x) =
-                  ends {m = made-in T} (three i k n ++ raceLine (r .first) (r .second) (r .cell)) b (λ rest. rw e) (put-then p x)
+                  ends {m = made-in T} (three i k n ++ raceLine (r .first) (r .second) (r .cell)) b (λ rest. rw e) (put-then line x)
                   (omega (arith, length-append (three i k n) (raceLine (r .first) (r .second) (r .cell)), race-length b e, line-length))
-              by {T} b none e (quiet x) = goes-on {m = made-in T} (three i k n) b (λ rest. rw e) (subst (λ (y : List ℕ). Put out y at (three i k n) next) (sym x) p) line-length
+              by {T} b none e (quiet x) = goes-on {m = made-in T} (three i k n) b (λ rest. rw e) (subst (λ (y : List ℕ). Put out y at (three i k n) next) (sym x) line) line-length

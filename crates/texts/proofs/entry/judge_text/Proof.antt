@@ -16,7 +16,7 @@ returns c =
 returns-2 : tie.Need-returns-2
 returns-2 c =
     let at-if2 = c in
-    text-short-out _ _ _ (at-if2 .if2 .taken)
+    text-short-out _ _ _ (omega (arith, at-if2 .if2 .taken))
 
 slice-aggregate-judge : tie.Need-slice-aggregate-judge
 slice-aggregate-judge c = search needs

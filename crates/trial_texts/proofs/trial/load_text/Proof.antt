@@ -1,4 +1,5 @@
 -- `load_text` meets its contract: what was loaded is run, or the refusal is written, or nothing.
+use native.Mathlib.Omega.{arith}
 use Rattle.laws.specs.Lists.{all-places}
 use Rattle.trial_texts.specs.LoadText.{loaded, run-ready, load-run, load-unread, load-refused, load-as}
 use Rattle.trial_texts.proofs.trial.First.{first-state}
@@ -32,7 +33,7 @@ returns c =
     let at-n = c .before .before in
     let at-raw-load = c .before .before .before .before .before .before in
     let at-start = c .before .before .before .before .before .before .before .before .before .before .before .before in
-    load-unread (at-start .args .image .now) (at-start .args .schedule .now) (at-start .pre) (load-as (at-raw-load .raw-load .ensures) (at-n .n .given .1)) (at-if1 .if1 .taken)
+    load-unread (at-start .args .image .now) (at-start .args .schedule .now) (at-start .pre) (load-as (at-raw-load .raw-load .ensures) (at-n .n .given .1)) (omega (arith, at-if1 .if1 .taken))
 
 load-line-requires : tie.Need-load-line-requires
 load-line-requires c κs = search needs

@@ -14,12 +14,12 @@ use Rattle.trial_texts.proofs.trial.trial_text.Tie as tie
 returns : tie.Need-returns
 returns c =
     let at-if1 = c in
-    trial-short _ _ _ _ (short-state (at-if1 .if1 .taken))
+    trial-short _ _ _ _ (short-state (omega (arith, at-if1 .if1 .taken)))
 
 returns-2 : tie.Need-returns-2
 returns-2 c =
     let at-if2 = c in
-    trial-short _ _ _ _ (short-text (at-if2 .if2 .taken))
+    trial-short _ _ _ _ (short-text (omega (arith, at-if2 .if2 .taken)))
 
 image-length-requires : tie.Need-image-length-requires
 image-length-requires c κs = search needs
