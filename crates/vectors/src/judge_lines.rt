@@ -3,45 +3,33 @@ use crate::buffers;
 use crate::buffers::PATTERN;
 use crate::due;
 use crate::fields::field;
-use crate::fields::numbers;
 use crate::fields::past_two;
 use crate::fields::rest;
 use crate::reports::Outcome;
 use crate::reports::outcome_of;
+use crate::verdicts::Said;
+use crate::verdicts::read_verdict;
 use judging::entry::Verdict;
 use judging::entry::judge;
 use lines::digits::Number;
 use lines::digits::bytes;
 
-// What the fields after the image say: the verdict that is due. Accepted is at place 0, a refusal gives no type.
-enum Said {
-    Due(Verdict),
-    Nothing,
-}
-
-fn accepted(place: usize, size: usize) -> Said {
-    if place == 0 {
-        return Said::Due(Verdict::Accepted(size));
-    }
-    Said::Nothing
-}
-
-fn refused(answer: usize, place: usize, size: usize) -> Said {
-    if size == 0 {
-        if answer < 256 {
-            return Said::Due(Verdict::Refused(answer as u8, place));
+// With a type of this size: accepted is at place 0, a refusal gives no type.
+fn sized(said: Said, size: usize) -> Said {
+    let Said::Due(due) = said else {
+        return Said::Nothing;
+    };
+    match due {
+        Verdict::Accepted(place) => {
+            if place == 0 {
+                return Said::Due(Verdict::Accepted(size));
+            }
         }
-    }
-    Said::Nothing
-}
-
-fn due_is(fields: &[u8], size: usize) -> Said {
-    let mut n = [0usize; 2];
-    if numbers(fields, &mut n) {
-        if n[0] == 0 {
-            return accepted(n[1], size);
+        Verdict::Refused(_, _) => {
+            if size == 0 {
+                return said;
+            }
         }
-        return refused(n[0], n[1], size);
     }
     Said::Nothing
 }
@@ -53,7 +41,7 @@ fn read_due(fields: &[u8], types: &mut [u8]) -> Said {
         return Said::Nothing;
     }
     match bytes(rest(last), types) {
-        Number::Is(size) => due_is(fields, size),
+        Number::Is(size) => sized(read_verdict(fields), size),
         Number::Unreadable => Said::Nothing,
     }
 }

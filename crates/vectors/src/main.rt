@@ -4,10 +4,12 @@
 mod buffers; // buffers.rt: the buffers
 mod due; // due.rt: the comparisons of the judge's and the loads' buffers
 mod fields; // fields.rt: the fields of a line
+mod verdicts; // verdicts.rt: a verdict as two fields
 mod judge_lines; // judge_lines.rt: the lines of the judge
 mod load_lines; // load_lines.rt: the lines of the two loads
 mod lister_lines; // lister_lines.rt: the lines of the lister
 mod race_lines; // race_lines.rt: the lines of the race finder
+mod calls; // calls.rt: a call of the machine, and its comparison
 mod step_lines; // step_lines.rt: the lines of the step
 mod run_lines; // run_lines.rt: the lines of the two runs
 mod text_lines; // text_lines.rt: the lines of the trial's text
@@ -44,8 +46,8 @@ fn kind_of(line: &[u8]) -> usize {
 fn run(kind: usize, line: &[u8]) -> Outcome {
     match kind {
         0 => judge_lines::judged(line),
-        1 => load_lines::raw(line),
-        2 => load_lines::judged(line),
+        1 => load_lines::loaded(line, false),
+        2 => load_lines::loaded(line, true),
         3 => lister_lines::listed(line),
         4 => text_lines::tried(line),
         5 => step_lines::stepped(line),

@@ -1,20 +1,16 @@
 // The lines of the two runs: `Q state schedule steps last state'` and `D state limit answer steps state'`.
-use crate::buffers;
+use crate::calls;
+use crate::calls::Call;
 use crate::due;
 use crate::fields::field;
 use crate::fields::numbers;
 use crate::fields::past_four;
 use crate::fields::rest;
 use crate::reports::Outcome;
-use crate::reports::both;
-use crate::reports::outcome_of;
 use crate::rows;
 use crate::rows::Row;
-use crate::sparse;
 use lines::digits::Number;
 use lines::digits::bytes;
-use machine::default_run::default_run;
-use machine::run::run;
 
 // What the fields after the state say: how long the schedule is or how high the limit, and the answer that is due.
 enum Said {
@@ -42,50 +38,6 @@ fn read_limit(fields: &[u8]) -> Said {
     Said::Nothing
 }
 
-fn run_first(state: &mut [u8], lent: usize, schedule: &[u8]) -> Row {
-    if lent < state.len() {
-        return rows::run_row(run(&mut state[..lent], schedule));
-    }
-    rows::run_row(run(state, schedule))
-}
-
-fn default_first(state: &mut [u8], lent: usize, limit: u64) -> Row {
-    if lent < state.len() {
-        return rows::default_row(default_run(&mut state[..lent], limit));
-    }
-    rows::default_row(default_run(state, limit))
-}
-
-fn run_on(fields: &[u8], schedule: &[u8], due: Row, all: bool) -> Outcome {
-    let mut state = buffers::state();
-    let mut expected = buffers::state();
-    let Number::Is(length) = sparse::pair(
-        field(fields),
-        past_four(fields),
-        &mut state,
-        &mut expected,
-    ) else {
-        return Outcome::Unreadable;
-    };
-    let row = run_first(&mut state, sparse::lent(length, all), schedule);
-    outcome_of(rows::as_due(row, due, &state, &expected))
-}
-
-fn default_on(fields: &[u8], limit: u64, due: Row, all: bool) -> Outcome {
-    let mut state = buffers::state();
-    let mut expected = buffers::state();
-    let Number::Is(length) = sparse::pair(
-        field(fields),
-        past_four(fields),
-        &mut state,
-        &mut expected,
-    ) else {
-        return Outcome::Unreadable;
-    };
-    let row = default_first(&mut state, sparse::lent(length, all), limit);
-    outcome_of(rows::as_due(row, due, &state, &expected))
-}
-
 pub(crate) fn scheduled(line: &[u8]) -> Outcome {
     let fields = rest(line);
     let mut buffer = [0u8; 1000];
@@ -93,10 +45,7 @@ pub(crate) fn scheduled(line: &[u8]) -> Outcome {
         return Outcome::Unreadable;
     };
     let schedule = due::first(&buffer, n);
-    both(
-        run_on(fields, schedule, due, false),
-        run_on(fields, schedule, due, true),
-    )
+    calls::compared(field(fields), past_four(fields), Call::Run, schedule, due)
 }
 
 pub(crate) fn by_default(line: &[u8]) -> Outcome {
@@ -104,8 +53,6 @@ pub(crate) fn by_default(line: &[u8]) -> Outcome {
     let Said::Due(limit, due) = read_limit(rest(fields)) else {
         return Outcome::Unreadable;
     };
-    both(
-        default_on(fields, limit as u64, due, false),
-        default_on(fields, limit as u64, due, true),
-    )
+    let call = Call::Default(limit as u64);
+    calls::compared(field(fields), past_four(fields), call, b"", due)
 }
