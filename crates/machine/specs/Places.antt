@@ -1,6 +1,6 @@
 -- The places that the code goes by are numbers of the machine. Each is said here over plain numbers, since arithmetic is slow beside all that a proof
 -- of code is handed.
-use Prim.Native.Nat.{ℕ, _+_, _-_, _*_, _<_, _≤_}
+use Prim.Native.Nat.{ℕ, _+_, _-_, _*_, _%_, _<_, _≤_}
 use native.Mathlib.Nat.{mul-le-mul}
 use native.Mathlib.Omega.{arith}
 use mir.Syntax.{w8, w64}
@@ -36,6 +36,9 @@ byte-from h l = omega arith
 
 pub byte-fits : {n : ℕ} → n < 256 → val.Fits w64 n
 byte-fits l = omega arith
+
+pub byte-rest : (n : ℕ) → val.Fits w8 (n % 256)
+byte-rest n = omega arith
 
 pub counted-fits : {n : ℕ} → n < 255 → val.Fits w8 (n + 1)
 counted-fits l = omega arith

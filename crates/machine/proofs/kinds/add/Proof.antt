@@ -1,13 +1,17 @@
 -- A part is no number, or the sum is exchanged for both.
 use mathlib.Core.Path.{ap₂, _∙_, refl}
 use Prim.Native.Nat.{_+_, _%_, _^_}
+use native.Mathlib.Nat.{lt-trans}
 use borrow.Author.Needs.{needs}
 use Rattle.machine.specs.Doing.{add-stuck, add-stuck-too, add-done}
+use Rattle.machine.specs.Places.{byte-rest}
 use Rattle.machine.proofs.kinds.add.Statement.{statement}
 use Rattle.machine.proofs.kinds.add.Tie as tie
 
 shared-slice-read-if1 : tie.Need-shared-slice-read-if1
-shared-slice-read-if1 c = search needs
+shared-slice-read-if1 c =
+    let at-start = c .before .before .before in
+    lt-trans (at-start .pre .first) (at-start .pre .second)
 
 returns : tie.Need-returns
 returns c =
@@ -15,7 +19,9 @@ returns c =
     add-stuck (at-if1 .if1 .taken)
 
 shared-slice-read-if2 : tie.Need-shared-slice-read-if2
-shared-slice-read-if2 c = search needs
+shared-slice-read-if2 c =
+    let at-start = c .before .before .before .before .before in
+    at-start .pre .second
 
 returns-2 : tie.Need-returns-2
 returns-2 c =
@@ -24,7 +30,9 @@ returns-2 c =
     add-stuck-too (at-if1 .if1 .left) (at-if2 .if2 .taken)
 
 word-at-requires : tie.Need-word-at-requires
-word-at-requires c κs = search needs
+word-at-requires c κs =
+    let at-start = c .before .before .before .before .before .before in
+    lt-trans (at-start .pre .first) (at-start .pre .second)
 
 add-word-at : tie.Need-add-word-at
 add-word-at c = search needs
@@ -36,16 +44,16 @@ wrapping-add-u32-requires : tie.Need-wrapping-add-u32-requires
 wrapping-add-u32-requires c κs = tt
 
 cast-t8 : tie.Need-cast-t8
-cast-t8 c = search needs
+cast-t8 c = byte-rest _
 
 cast-t16 : tie.Need-cast-t16
-cast-t16 c = search needs
+cast-t16 c = byte-rest _
 
 cast-t19 : tie.Need-cast-t19
-cast-t19 c = search needs
+cast-t19 c = byte-rest _
 
 cast-t21 : tie.Need-cast-t21
-cast-t21 c = search needs
+cast-t21 c = byte-rest _
 
 slice-aggregate-fill : tie.Need-slice-aggregate-fill
 slice-aggregate-fill c = refl

@@ -1,11 +1,13 @@
 -- The first part is no function, or its body gets the second: the laws of `Doing`.
-use borrow.Author.Needs.{needs}
+use native.Mathlib.Nat.{le-of-lt, lt-trans}
 use Rattle.machine.specs.Doing.{apply-stuck, apply-done}
 use Rattle.machine.proofs.kinds.apply.Statement.{statement}
 use Rattle.machine.proofs.kinds.apply.Tie as tie
 
 shared-slice-read-if1 : tie.Need-shared-slice-read-if1
-shared-slice-read-if1 c = search needs
+shared-slice-read-if1 c =
+    let at-start = c .before .before .before .before in
+    lt-trans (at-start .pre .0 .first) (at-start .pre .0 .second)
 
 returns : tie.Need-returns
 returns c =
@@ -13,22 +15,34 @@ returns c =
     apply-stuck (at-if1 .if1 .taken)
 
 sub-put : tie.Need-sub-put
-sub-put c = search needs
+sub-put c =
+    let at-start = c .before .before .before .before .before in
+    at-start .pre .0 .first
 
 part-put-start : tie.Need-part-put-start
-part-put-start c = search needs
+part-put-start c =
+    let at-start = c .before .before .before .before .before in
+    at-start .pre .0 .first
 
 part-put-end : tie.Need-part-put-end
-part-put-end c = search needs
+part-put-end c =
+    let at-start = c .before .before .before .before .before in
+    le-of-lt (at-start .pre .0 .second)
 
 sub-put-2 : tie.Need-sub-put-2
-sub-put-2 c = search needs
+sub-put-2 c =
+    let at-start = c .before .before .before .before .before .before in
+    le-of-lt (at-start .pre .0 .second)
 
 part-put-start-2 : tie.Need-part-put-start-2
-part-put-start-2 c = search needs
+part-put-start-2 c =
+    let at-start = c .before .before .before .before .before .before in
+    le-of-lt (at-start .pre .0 .second)
 
 part-put-end-2 : tie.Need-part-put-end-2
-part-put-end-2 c = search needs
+part-put-end-2 c =
+    let at-start = c .before .before .before .before .before .before in
+    at-start .pre .0 .inside
 
 put-requires : tie.Need-put-requires
 put-requires c κs = tt

@@ -1,26 +1,38 @@
 -- The second part gets the first.
-use borrow.Author.Needs.{needs}
+use native.Mathlib.Nat.{le-of-lt}
 use Rattle.machine.specs.Doing.{bind-done}
 use Rattle.machine.proofs.kinds.bind.Statement.{statement}
 use Rattle.machine.proofs.kinds.bind.Tie as tie
 
 sub-put : tie.Need-sub-put
-sub-put c = search needs
+sub-put c =
+    let at-start = c .before .before .before in
+    le-of-lt (at-start .pre .0 .second)
 
 part-put-start : tie.Need-part-put-start
-part-put-start c = search needs
+part-put-start c =
+    let at-start = c .before .before .before in
+    le-of-lt (at-start .pre .0 .second)
 
 part-put-end : tie.Need-part-put-end
-part-put-end c = search needs
+part-put-end c =
+    let at-start = c .before .before .before in
+    at-start .pre .0 .inside
 
 sub-put-2 : tie.Need-sub-put-2
-sub-put-2 c = search needs
+sub-put-2 c =
+    let at-start = c .before .before .before .before in
+    le-of-lt (at-start .pre .0 .first)
 
 part-put-start-2 : tie.Need-part-put-start-2
-part-put-start-2 c = search needs
+part-put-start-2 c =
+    let at-start = c .before .before .before .before in
+    le-of-lt (at-start .pre .0 .first)
 
 part-put-end-2 : tie.Need-part-put-end-2
-part-put-end-2 c = search needs
+part-put-end-2 c =
+    let at-start = c .before .before .before .before in
+    le-of-lt (at-start .pre .0 .second)
 
 put-requires : tie.Need-put-requires
 put-requires c κs = tt

@@ -1,6 +1,6 @@
 -- There is no room for a cell or for its value, or the next cell is left.
 use mathlib.Core.Path.{refl}
-use borrow.Author.Needs.{needs}
+use native.Mathlib.Nat.{le-of-lt}
 use Rattle.machine.specs.Doing.{cell-full, cell-long, cell-made}
 use Rattle.machine.proofs.kinds.make_cell.Statement.{statement}
 use Rattle.machine.proofs.kinds.make_cell.Tie as tie
@@ -11,7 +11,9 @@ returns c =
     cell-full (at-if1 .if1 .taken)
 
 sub-if2 : tie.Need-sub-if2
-sub-if2 c = search needs
+sub-if2 c =
+    let at-start = c .before .before .before in
+    le-of-lt (at-start .pre .some)
 
 returns-2 : tie.Need-returns-2
 returns-2 c =

@@ -1,6 +1,6 @@
 -- There is no room for a lock, or the part gets the next lock.
 use mathlib.Core.Path.{refl}
-use borrow.Author.Needs.{needs}
+use native.Mathlib.Nat.{le-of-lt}
 use Rattle.machine.specs.Doing.{lock-full, lock-made}
 use Rattle.machine.proofs.kinds.make_lock.Statement.{statement}
 use Rattle.machine.proofs.kinds.make_lock.Tie as tie
@@ -11,13 +11,19 @@ returns c =
     lock-full (at-if1 .if1 .taken)
 
 sub-put : tie.Need-sub-put
-sub-put c = search needs
+sub-put c =
+    let at-start = c .before .before .before .before in
+    le-of-lt (at-start .pre .0 .some)
 
 part-put-start : tie.Need-part-put-start
-part-put-start c = search needs
+part-put-start c =
+    let at-start = c .before .before .before .before in
+    le-of-lt (at-start .pre .0 .some)
 
 part-put-end : tie.Need-part-put-end
-part-put-end c = search needs
+part-put-end c =
+    let at-start = c .before .before .before .before in
+    at-start .pre .0 .inside
 
 slice-aggregate-put : tie.Need-slice-aggregate-put
 slice-aggregate-put c = refl

@@ -1,5 +1,5 @@
 -- The section's part is exchanged for the section.
-use borrow.Author.Needs.{needs}
+use native.Mathlib.Nat.{le-of-lt}
 use Rattle.machine.specs.Doing.{release-done}
 use Rattle.machine.specs.Places.{byte-fits}
 use Rattle.machine.proofs.kinds.release.Statement.{statement}
@@ -14,13 +14,19 @@ cast-l c =
     byte-fits (at-byte-at .byte-at .ok)
 
 sub-fill : tie.Need-sub-fill
-sub-fill c = search needs
+sub-fill c =
+    let at-start = c .before .before .before in
+    le-of-lt (at-start .pre .some)
 
 part-fill-start : tie.Need-part-fill-start
-part-fill-start c = search needs
+part-fill-start c =
+    let at-start = c .before .before .before in
+    le-of-lt (at-start .pre .some)
 
 part-fill-end : tie.Need-part-fill-end
-part-fill-end c = search needs
+part-fill-end c =
+    let at-start = c .before .before .before in
+    at-start .pre .inside
 
 fill-requires : tie.Need-fill-requires
 fill-requires c κs = tt

@@ -1,14 +1,16 @@
 -- The first part is no lock, the lock is marked, or an open section is left.
 use mathlib.Core.Path.{sym, _∙_, refl}
+use native.Mathlib.Nat.{le-of-lt, lt-trans}
 use lib.Dec.{lit<}
-use borrow.Author.Needs.{needs}
 use Rattle.machine.specs.Doing.{take-stuck, take-waits, take-done}
 use Rattle.machine.specs.Places.{byte-from, byte-fits}
 use Rattle.machine.proofs.kinds.take.Statement.{statement}
 use Rattle.machine.proofs.kinds.take.Tie as tie
 
 shared-slice-read-if1 : tie.Need-shared-slice-read-if1
-shared-slice-read-if1 c = search needs
+shared-slice-read-if1 c =
+    let at-start = c .before .before .before .before in
+    lt-trans (at-start .pre .first) (at-start .pre .second)
 
 returns : tie.Need-returns
 returns c =
@@ -43,13 +45,19 @@ slice-aggregate-fill-both : tie.Need-slice-aggregate-fill-both
 slice-aggregate-fill-both c = refl
 
 sub-fill-both : tie.Need-sub-fill-both
-sub-fill-both c = search needs
+sub-fill-both c =
+    let at-start = c .before .before .before .before .before .before .before .before .before in
+    le-of-lt (at-start .pre .second)
 
 part-fill-both-start : tie.Need-part-fill-both-start
-part-fill-both-start c = search needs
+part-fill-both-start c =
+    let at-start = c .before .before .before .before .before .before .before .before .before in
+    le-of-lt (at-start .pre .second)
 
 part-fill-both-end : tie.Need-part-fill-both-end
-part-fill-both-end c = search needs
+part-fill-both-end c =
+    let at-start = c .before .before .before .before .before .before .before .before .before in
+    at-start .pre .inside
 
 fill-both-requires : tie.Need-fill-both-requires
 fill-both-requires c κs = tt

@@ -1,17 +1,23 @@
 -- The second part is left.
-use borrow.Author.Needs.{needs}
+use native.Mathlib.Nat.{le-of-lt}
 use Rattle.machine.specs.Doing.{then-done}
 use Rattle.machine.proofs.kinds.went_on.Statement.{statement}
 use Rattle.machine.proofs.kinds.went_on.Tie as tie
 
 sub-fill : tie.Need-sub-fill
-sub-fill c = search needs
+sub-fill c =
+    let at-start = c .before .before in
+    le-of-lt (at-start .pre .some)
 
 part-fill-start : tie.Need-part-fill-start
-part-fill-start c = search needs
+part-fill-start c =
+    let at-start = c .before .before in
+    le-of-lt (at-start .pre .some)
 
 part-fill-end : tie.Need-part-fill-end
-part-fill-end c = search needs
+part-fill-end c =
+    let at-start = c .before .before in
+    at-start .pre .inside
 
 fill-requires : tie.Need-fill-requires
 fill-requires c κs = tt

@@ -1,13 +1,15 @@
 -- The first part is no cell, the second is too long for one, or unit is exchanged for both.
 use mathlib.Core.Path.{refl}
-use borrow.Author.Needs.{needs}
+use native.Mathlib.Nat.{le-of-lt, lt-trans}
 use Rattle.machine.specs.Doing.{write-stuck, write-long, write-done}
 use Rattle.machine.specs.Places.{byte-fits}
 use Rattle.machine.proofs.kinds.write.Statement.{statement}
 use Rattle.machine.proofs.kinds.write.Tie as tie
 
 shared-slice-read-if1 : tie.Need-shared-slice-read-if1
-shared-slice-read-if1 c = search needs
+shared-slice-read-if1 c =
+    let at-start = c .before .before .before in
+    lt-trans (at-start .pre .first) (at-start .pre .second)
 
 returns : tie.Need-returns
 returns c =
@@ -23,7 +25,9 @@ cast-j c =
     byte-fits (at-byte-at .byte-at .ok)
 
 sub-if2 : tie.Need-sub-if2
-sub-if2 c = search needs
+sub-if2 c =
+    let at-start = c .before .before .before .before .before in
+    le-of-lt (at-start .pre .second)
 
 returns-2 : tie.Need-returns-2
 returns-2 c =
