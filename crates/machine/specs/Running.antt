@@ -109,7 +109,7 @@ module _ {card : Card} {state : List ℕ} {i : ℕ} {d : Due} {s buffer stack : 
   pub part-fits : length s ≤ d .used
   part-fits = omega (arith, cut .inside, used, size)
 
-  pub thread-fits : d .used ≤ card .threadBytes
+  thread-fits : d .used ≤ card .threadBytes
   thread-fits = omega (arith, used, slot .fits)
 
   pub part-rest : d .used - length s ≤ card .threadBytes
