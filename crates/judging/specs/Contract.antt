@@ -77,7 +77,7 @@ place3 (one a) = 0
 place3 (two a b) = 0
 place3 (three a b c) = placeOf c
 
--- what a step after a part is given; the part gave t and m
+-- what is given after a part; the part gave t and m
 pub record Given (img w : List ℕ) (at v n left : ℕ) (x : Exp) : Type 0 where
   pub next : ℕ
   pub reads : expAt left v n img at ≡ got x next
@@ -112,13 +112,13 @@ Some2 img w at n left = (v : ℕ) × (x : Exp) × Given img w at v n left x × (
 abbrev pub Some3 : List ℕ → List ℕ → ℕ → ℕ → ℕ → Type 0
 Some3 img w at n left = (v : ℕ) × (x : Exp) × Given img w at v n left x × (getD img at 0 ≡ 15) × (u : Ty) × InSlot w (left - 1) n u
 
--- A function that does it is handed only what it works on. It asks that such an expression, of a code in B, stands at the place of the image; or at
--- some place of some image, where it is handed neither. It answers for every one that does.
-abbrev pub AskedIn1 : (ℕ → Type 0) → List ℕ → ℕ → List ℕ → ℕ → Type 0
-AskedIn1 B img at w left = (n : ℕ) × Some1 img w at n left × B (getD img at 0)
+-- A function that does it is handed only what it works on. It asks that such an expression (S: Some1 or Some2), of a code in B, stands at the place
+-- of the image; or at some place of some image, where it is handed neither. It answers for every one that does.
+abbrev pub AskedIn : (List ℕ → List ℕ → ℕ → ℕ → ℕ → Type 0) → (ℕ → Type 0) → List ℕ → ℕ → List ℕ → ℕ → Type 0
+AskedIn S B img at w left = (n : ℕ) × S img w at n left × B (getD img at 0)
 
-abbrev pub Asked1 : (ℕ → Type 0) → List ℕ → ℕ → Type 0
-Asked1 B w left = (img : List ℕ) × (at : ℕ) × AskedIn1 B img at w left
+abbrev pub Asked : (List ℕ → List ℕ → ℕ → ℕ → ℕ → Type 0) → (ℕ → Type 0) → List ℕ → ℕ → Type 0
+Asked S B w left = (img : List ℕ) × (at : ℕ) × AskedIn S B img at w left
 
 abbrev pub AnswersIn1 : (ℕ → Type 0) → List ℕ → ℕ → ℕ → List ℕ → List ℕ → ℕ → ℕ → ℕ → Answer → Type 0
 AnswersIn1 B img at part w w′ left need next r = (n : ℕ) → Some1 img w at n left → B (getD img at 0) → First img w w′ at n left part need next r
@@ -129,12 +129,6 @@ Answers1 B part w w′ left need next r = (img : List ℕ) (at : ℕ) → Answer
 -- where a refusal is at the expression, and none at the part
 abbrev pub AnswersAt1 : (ℕ → Type 0) → ℕ → List ℕ → List ℕ → ℕ → ℕ → ℕ → Answer → Type 0
 AnswersAt1 B at w w′ left need next r = (img : List ℕ) (part : ℕ) → AnswersIn1 B img at part w w′ left need next r
-
-abbrev pub AskedIn2 : (ℕ → Type 0) → List ℕ → ℕ → List ℕ → ℕ → Type 0
-AskedIn2 B img at w left = (n : ℕ) × Some2 img w at n left × B (getD img at 0)
-
-abbrev pub Asked2 : (ℕ → Type 0) → List ℕ → ℕ → Type 0
-Asked2 B w left = (img : List ℕ) × (at : ℕ) × AskedIn2 B img at w left
 
 abbrev pub AnswersIn2 : (ℕ → Type 0) → List ℕ → ℕ → ℕ → List ℕ → List ℕ → ℕ → ℕ → ℕ → ℕ → Answer → Type 0
 AnswersIn2 B img at part w w′ left m need next r = (n : ℕ) → Some2 img w at n left → B (getD img at 0) → Second img w w′ at n left part m need next r

@@ -13,11 +13,11 @@ use types::subtype::Mode;
 ghost use mathlib.Core.Path.{_≡_};
 ghost use Prim.Native.Nat.{_+_, _-_};
 ghost use Rattle.judging.specs.Copies.{Ends};
-ghost use Rattle.judging.specs.Contract.{AskedIn1, Asked1, AnswersIn1, Answers1, AnswersAt1, Tests1, Due};
+ghost use Rattle.judging.specs.Contract.{Some1, AskedIn, Asked, AnswersIn1, Answers1, AnswersAt1, Tests1, Due};
 
 // Whether the part is of the kind due: a Function, a Ref or a Lock.
 pub(crate) fn first_due(work: &mut [u8], left: u8, kind: u8) -> bool
-    requires { ⌜ Asked1 (λ b. Due b kind) (now work) left ⌝ }
+    requires { ⌜ Asked Some1 (λ b. Due b kind) (now work) left ⌝ }
     ensures { λ r. ⌜ Tests1 (λ b. Due b kind) (now (work .entry)) (now (work .exit)) left r ⌝ }
 {
     let from = slot_of(left - 1);
@@ -30,7 +30,7 @@ pub(crate) fn first_due(work: &mut [u8], left: u8, kind: u8) -> bool
 
 // Whether the part is an Int, which is all that is kept of it.
 pub(crate) fn first_int(work: &mut [u8], left: u8) -> bool
-    requires { ⌜ Asked1 (λ b. Due b 33) (now work) left ⌝ }
+    requires { ⌜ Asked Some1 (λ b. Due b 33) (now work) left ⌝ }
     ensures { λ r. ⌜ Tests1 (λ b. Due b 33) (now (work .entry)) (now (work .exit)) left r ⌝ }
 {
     if work[slot_of(left - 1)] != 33 {
@@ -42,7 +42,7 @@ pub(crate) fn first_int(work: &mut [u8], left: u8) -> bool
 
 // A fork starts with no lock.
 pub(crate) fn first_fork(at: usize, work: &mut [u8], left: u8, need: u32, next: usize) -> Answer
-    requires { ⌜ Asked1 (λ b. b ≡ 9) (now work) left ⌝ }
+    requires { ⌜ Asked Some1 (λ b. b ≡ 9) (now work) left ⌝ }
     ensures { λ r. ⌜ AnswersAt1 (λ b. b ≡ 9) at (now (work .entry)) (now (work .exit)) left need next r ⌝ }
 {
     if need != 0 {
@@ -54,7 +54,7 @@ pub(crate) fn first_fork(at: usize, work: &mut [u8], left: u8, need: u32, next: 
 
 // Out from under the new lock, which neither the type nor the need may mention.
 pub(crate) fn first_lock(at: usize, work: &mut [u8], left: u8, need: u32, next: usize) -> Answer
-    requires { ⌜ Asked1 (λ b. b ≡ 10) (now work) left ⌝ }
+    requires { ⌜ Asked Some1 (λ b. b ≡ 10) (now work) left ⌝ }
     ensures { λ r. ⌜ AnswersAt1 (λ b. b ≡ 10) at (now (work .entry)) (now (work .exit)) left need next r ⌝ }
 {
     let to = slot_of(left);
@@ -73,7 +73,7 @@ pub(crate) fn first_lock(at: usize, work: &mut [u8], left: u8, need: u32, next: 
 
 // A read gives the content, and needs the cell's lock.
 pub(crate) fn first_read(part: usize, work: &mut [u8], left: u8, need: u32, next: usize) -> Answer
-    requires { ⌜ Asked1 (λ b. b ≡ 7) (now work) left ⌝ }
+    requires { ⌜ Asked Some1 (λ b. b ≡ 7) (now work) left ⌝ }
     ensures { λ r. ⌜ Answers1 (λ b. b ≡ 7) part (now (work .entry)) (now (work .exit)) left need next r ⌝ }
 {
     let from = slot_of(left - 1);
@@ -95,7 +95,7 @@ pub(crate) fn first_cell(
     need: u32,
     next: usize,
 ) -> Answer
-    requires { ⌜ AskedIn1 (λ b. b ≡ 6) (now img) at (now work) left ⌝ }
+    requires { ⌜ AskedIn Some1 (λ b. b ≡ 6) (now img) at (now work) left ⌝ }
     requires { ⌜ Ends (now img) (at + 2) part ⌝ }
     ensures { λ r. ⌜ AnswersIn1 (λ b. b ≡ 6) (now (img .entry)) at part (now (work .entry)) (now (work .exit)) left need next r ⌝ }
 {
@@ -127,7 +127,7 @@ pub(crate) fn first_lam(
     need: u32,
     next: usize,
 ) -> Answer
-    requires { ⌜ AskedIn1 (λ b. b ≡ 4) (now img) at (now work) left ⌝ }
+    requires { ⌜ AskedIn Some1 (λ b. b ≡ 4) (now img) at (now work) left ⌝ }
     requires { ⌜ Ends (now img) (at + 1) (part - 4) ⌝ }
     ensures { λ r. ⌜ AnswersIn1 (λ b. b ≡ 4) (now (img .entry)) at part (now (work .entry)) (now (work .exit)) left need next r ⌝ }
 {

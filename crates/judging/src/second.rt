@@ -9,7 +9,7 @@ use types::subtype;
 use types::subtype::Cmp;
 use types::subtype::Mode;
 ghost use mathlib.Core.Path.{_≡_};
-ghost use Rattle.judging.specs.Contract.{AskedIn2, Asked2, Answers2, AnyPart2, TestsIn2, AskedIn3, AnswersIn3};
+ghost use Rattle.judging.specs.Contract.{Some2, AskedIn, Asked, Answers2, AnyPart2, TestsIn2, AskedIn3, AnswersIn3};
 
 // An argument is below the function's, and the result is the function's.
 pub(crate) fn second_app(
@@ -20,7 +20,7 @@ pub(crate) fn second_app(
     need: u32,
     next: usize,
 ) -> Answer
-    requires { ⌜ Asked2 (λ b. b ≡ 5) (now work) left ⌝ }
+    requires { ⌜ Asked Some2 (λ b. b ≡ 5) (now work) left ⌝ }
     ensures { λ r. ⌜ Answers2 (λ b. b ≡ 5) part (now (work .entry)) (now (work .exit)) left kept need next r ⌝ }
 {
     let to = slot_of(left);
@@ -44,7 +44,7 @@ pub(crate) fn second_write(
     need: u32,
     next: usize,
 ) -> Answer
-    requires { ⌜ Asked2 (λ b. b ≡ 8) (now work) left ⌝ }
+    requires { ⌜ Asked Some2 (λ b. b ≡ 8) (now work) left ⌝ }
     ensures { λ r. ⌜ Answers2 (λ b. b ≡ 8) part (now (work .entry)) (now (work .exit)) left kept need next r ⌝ }
 {
     let to = slot_of(left);
@@ -60,7 +60,7 @@ pub(crate) fn second_write(
 
 // A section gives its lock to e2, and to nothing else.
 pub(crate) fn second_sync(work: &mut [u8], left: u8, kept: u32, need: u32, next: usize) -> Answer
-    requires { ⌜ Asked2 (λ b. b ≡ 11) (now work) left ⌝ }
+    requires { ⌜ Asked Some2 (λ b. b ≡ 11) (now work) left ⌝ }
     ensures { λ r. ⌜ AnyPart2 (λ b. b ≡ 11) (now (work .entry)) (now (work .exit)) left kept need next r ⌝ }
 {
     let to = slot_of(left);
@@ -78,7 +78,7 @@ pub(crate) fn second_add(
     need: u32,
     next: usize,
 ) -> Answer
-    requires { ⌜ Asked2 (λ b. b ≡ 14) (now work) left ⌝ }
+    requires { ⌜ Asked Some2 (λ b. b ≡ 14) (now work) left ⌝ }
     ensures { λ r. ⌜ Answers2 (λ b. b ≡ 14) part (now (work .entry)) (now (work .exit)) left kept need next r ⌝ }
 {
     if work[slot_of(left - 1)] != 33 {
@@ -90,7 +90,7 @@ pub(crate) fn second_add(
 
 // Whether the branch that is taken where the number is not 0 is below the stated type. Nothing of it is needed later: Unit is kept.
 pub(crate) fn second_cond(img: &[u8], at: usize, work: &mut [u8], left: u8) -> bool
-    requires { ⌜ AskedIn2 (λ b. b ≡ 15) (now img) at (now work) left ⌝ }
+    requires { ⌜ AskedIn Some2 (λ b. b ≡ 15) (now img) at (now work) left ⌝ }
     ensures { λ r. ⌜ TestsIn2 (λ b. b ≡ 15) (now (img .entry)) at (now (work .entry)) (now (work .exit)) left r ⌝ }
 {
     match subtype::related(work, slot_of(left - 1), img, at + 1, Mode::Below) {

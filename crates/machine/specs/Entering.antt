@@ -28,7 +28,7 @@ use Rattle.writing.specs.Written.{Written, roomFor}
 use Rattle.machine.specs.declared.step.Due.{Due}
 use Rattle.machine.specs.declared.step.Step.the-variants.{NoSuchThread, IsFinished}
 use Rattle.machine.specs.Means.{Part, part-bytes, part-cut, became}
-use Rattle.machine.specs.Places.{slot-within}
+use Rattle.machine.specs.Fitting.{slot-within}
 use Rattle.machine.specs.DuePart.{Whole, Parted, due-part}
 use Rattle.machine.specs.Answering.{Held, Running, Answers}
 

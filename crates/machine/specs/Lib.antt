@@ -1,5 +1,5 @@
 -- ---- what the code's answers mean
-pub mod Places
+pub mod Fitting
 pub mod Means
 pub mod Kinds
 -- ---- the kinds of step

@@ -6,7 +6,7 @@ use lib.Dec.{lit<}
 use Rattle.places.specs.Put.{Puts}
 use Rattle.machine.specs.Altering.{new-cell-cut, new-cell-few, set-cell-cut, set-cell-low, new-lock-few, taken-low, released-low, new-thread-cut, new-thread-few}
 use Rattle.machine.specs.Altering.{altered, alters-nothing, alters-new-cell, alters-set-cell, alters-new-lock, alters-taken, alters-released, alters-new-thread}
-use Rattle.machine.specs.Places.{byte-from, counted-fits}
+use Rattle.machine.specs.Fitting.{byte-from, counted-fits}
 use Rattle.machine.proofs.change.change.Statement.{statement}
 use Rattle.machine.proofs.change.change.Tie as tie
 

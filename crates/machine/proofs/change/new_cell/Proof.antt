@@ -4,7 +4,7 @@ use Prim.Native.Nat.{_+_, _<_}
 use Rattle.places.specs.Put.{Puts}
 use Rattle.machine.specs.Acting.{cardOf}
 use Rattle.machine.specs.Altering.{CellPut}
-use Rattle.machine.specs.Places.{byte-fits, counted-fits}
+use Rattle.machine.specs.Fitting.{byte-fits, counted-fits}
 use Rattle.machine.proofs.change.new_cell.Statement.{statement}
 use Rattle.machine.proofs.change.new_cell.Tie as tie
 

@@ -3,7 +3,7 @@ use mathlib.Core.Path.{_∙_}
 use native.Mathlib.Nat.{lt-trans}
 use lib.Dec.{lit<}
 use borrow.Author.Needs.{needs}
-use Rattle.machine.specs.Places.{slot-fits, slot-from, pair-fits, pair-from, counted-fits}
+use Rattle.machine.specs.Fitting.{slot-fits, slot-from, pair-fits, pair-from, counted-fits}
 use Rattle.machine.proofs.change.new_thread.Statement.{statement}
 use Rattle.machine.proofs.change.new_thread.Tie as tie
 

@@ -1,6 +1,6 @@
 -- A slot's place is a number of the machine.
 use lib.Dec.{lit<}
-use Rattle.machine.specs.Places.{slot-fits, slot-from, pair-fits, pair-from, cells-low, threads-fit, cells-fit}
+use Rattle.machine.specs.Fitting.{slot-fits, slot-from, pair-fits, pair-from, cells-low, threads-fit, cells-fit}
 use Rattle.machine.proofs.change.set_cell.Statement.{statement}
 use Rattle.machine.proofs.change.set_cell.Tie as tie
 

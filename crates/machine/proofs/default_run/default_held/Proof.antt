@@ -6,7 +6,7 @@ use Rattle.machine.specs.Acting.{cardOf}
 use Rattle.machine.specs.DefaultCalls.{Going, going-start, going-on, going-stops, going-ends}
 use Rattle.machine.specs.Answering.{Scratch, scratch-kept}
 use borrow.Author.Needs.{needs}
-use Rattle.machine.specs.Places.{nearer}
+use Rattle.machine.specs.Fitting.{nearer}
 use Rattle.machine.proofs.default_run.default_held.Statement.{statement}
 use Rattle.machine.proofs.default_run.default_held.Tie as tie
 

@@ -2,7 +2,7 @@
 use mathlib.Core.Path.{ap, sym, _∙_}
 use Prim.Native.Nat.{_-_}
 use lib.ListN.{length}
-use Rattle.machine.specs.Places.{byte-fits, next-fits, nearer}
+use Rattle.machine.specs.Fitting.{byte-fits, next-fits, nearer}
 use Rattle.machine.specs.Acting.{cardOf}
 use Rattle.machine.specs.Answering.{Scratch, scratch-kept}
 use Rattle.machine.specs.Calling.{called}

@@ -2,7 +2,7 @@
 use Rattle.machine.specs.Means.{part-cut}
 use Rattle.machine.specs.Cutting.{of-cell, of-read, of-newlock, of-app, of-write, of-sync, of-bind, of-add, one-cut, two-cut, seq-cut, cond-cut, section-cut}
 use Rattle.machine.specs.Acting.{acts-app, acts-cell, acts-read, acts-write, acts-fork, acts-newlock, acts-sync, acts-bind, acts-seq, acts-add, acts-cond, acts-release, acts-else}
-use Rattle.machine.specs.Places.{cells-low, threads-fit, cells-fit}
+use Rattle.machine.specs.Fitting.{cells-low, threads-fit, cells-fit}
 use Rattle.machine.proofs.dispatch.act.Statement.{statement}
 use Rattle.machine.proofs.dispatch.act.Tie as tie
 

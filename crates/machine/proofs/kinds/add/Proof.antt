@@ -4,7 +4,7 @@ use Prim.Native.Nat.{_+_, _%_, _^_}
 use native.Mathlib.Nat.{lt-trans}
 use borrow.Author.Needs.{needs}
 use Rattle.machine.specs.Doing.{add-stuck, add-stuck-too, add-done}
-use Rattle.machine.specs.Places.{byte-rest}
+use Rattle.machine.specs.Fitting.{byte-rest}
 use Rattle.machine.proofs.kinds.add.Statement.{statement}
 use Rattle.machine.proofs.kinds.add.Tie as tie
 

@@ -2,7 +2,7 @@
 use native.Mathlib.Nat.{le-add-right}
 use lib.Dec.{lit<}
 use Rattle.machine.specs.Doing.{read-stuck, read-slot, read-end, read-done}
-use Rattle.machine.specs.Places.{slot-fits, slot-from, slot-within, pair-fits, pair-from, byte-fits}
+use Rattle.machine.specs.Fitting.{slot-fits, slot-from, slot-within, pair-fits, pair-from, byte-fits}
 use Rattle.machine.proofs.kinds.read.Statement.{statement}
 use Rattle.machine.proofs.kinds.read.Tie as tie
 

@@ -1,7 +1,7 @@
 -- The section's part is exchanged for the section.
 use native.Mathlib.Nat.{le-of-lt}
 use Rattle.machine.specs.Doing.{release-done}
-use Rattle.machine.specs.Places.{byte-fits}
+use Rattle.machine.specs.Fitting.{byte-fits}
 use Rattle.machine.proofs.kinds.release.Statement.{statement}
 use Rattle.machine.proofs.kinds.release.Tie as tie
 

@@ -3,7 +3,7 @@ use mathlib.Core.Path.{sym, _∙_, refl}
 use native.Mathlib.Nat.{le-of-lt, lt-trans}
 use lib.Dec.{lit<}
 use Rattle.machine.specs.Doing.{take-stuck, take-waits, take-done}
-use Rattle.machine.specs.Places.{byte-from, byte-fits}
+use Rattle.machine.specs.Fitting.{byte-from, byte-fits}
 use Rattle.machine.proofs.kinds.take.Statement.{statement}
 use Rattle.machine.proofs.kinds.take.Tie as tie
 

@@ -2,7 +2,7 @@
 use mathlib.Core.Path.{refl}
 use native.Mathlib.Nat.{le-of-lt, lt-trans}
 use Rattle.machine.specs.Doing.{write-stuck, write-long, write-done}
-use Rattle.machine.specs.Places.{byte-fits}
+use Rattle.machine.specs.Fitting.{byte-fits}
 use Rattle.machine.proofs.kinds.write.Statement.{statement}
 use Rattle.machine.proofs.kinds.write.Tie as tie
 

@@ -3,7 +3,7 @@ use mathlib.Core.Logic.{⊎-elim}
 use mathlib.Core.Path.{sym, _∙_}
 use Prim.Native.Nat.{_-_}
 use borrow.Author.Needs.{needs}
-use Rattle.machine.specs.Places.{byte-fits, nearer}
+use Rattle.machine.specs.Fitting.{byte-fits, nearer}
 use Rattle.machine.specs.Acting.{cardOf}
 use Rattle.machine.specs.Answering.{Scratch, scratch-kept}
 use Rattle.machine.specs.Calling.{called}

@@ -4,7 +4,7 @@ use lib.Seq.{length-take-le}
 use lib.Dec.{lit<}
 use Rattle.machine.specs.Running.{part-fits, part-short, thread-low, run-redex, run-stuck, run-full, run-long, run-waits, part-rest}
 use Rattle.machine.specs.Running.{run-outgrows, run-altering, run-room, run-made}
-use Rattle.machine.specs.Places.{slot-fits, slot-from, pair-fits, pair-from}
+use Rattle.machine.specs.Fitting.{slot-fits, slot-from, pair-fits, pair-from}
 use Rattle.machine.proofs.step.run_part.Statement.{statement}
 use Rattle.machine.proofs.step.run_part.Tie as tie
 

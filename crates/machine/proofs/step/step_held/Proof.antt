@@ -5,7 +5,7 @@ use lib.Seq.{length-take-le}
 use lib.Dec.{lit<}
 use Rattle.machine.specs.Entering.{held-nobody, held-start, held-finished, held-to, held-inside, held-whole, held-low}
 use Rattle.machine.specs.Entering.{held-part-from, held-part-to, held-part, held-part-inside, held-all, held-running}
-use Rattle.machine.specs.Places.{slot-fits, slot-from, pair-fits, pair-from, byte-fits}
+use Rattle.machine.specs.Fitting.{slot-fits, slot-from, pair-fits, pair-from, byte-fits}
 use Rattle.machine.proofs.step.step_held.Statement.{statement}
 use Rattle.machine.proofs.step.step_held.Tie as tie
 
