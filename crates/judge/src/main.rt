@@ -1,5 +1,6 @@
 // The judge program: an image on standard input, the judge's line on standard output. An image has at most 4,096 bytes, so one byte more
 // is read than that, and what follows it changes nothing (texts/Enough).
+#![tactic(auto)]
 use libc::{STDIN_FILENO, STDOUT_FILENO};
 use texts::entry::Text;
 

@@ -1,5 +1,6 @@
 // The trial program: an image and a schedule on standard input, the trial's text on standard output. An image over 4,096 bytes is refused with 2
 // whatever follows it, and of a schedule 8,192 bytes count: so 12,288 bytes are read, and what follows them changes nothing (trial_texts/Enough).
+#![tactic(auto)]
 use libc::{STDIN_FILENO, STDOUT_FILENO};
 use texts::entry::Text;
 

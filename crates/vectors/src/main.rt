@@ -1,6 +1,7 @@
 // Runs vectors through the library: a line of standard input each, of the kind that its first letter says. What a vector's call
 // answers and every byte of the buffers lent to it are held to what the line says is due. A line is printed for each vector
 // that is run, and at the end how many of each kind were run and how many failed.
+#![tactic(auto)]
 mod buffers; // buffers.rt: the buffers
 mod due; // due.rt: the comparisons of the judge's and the loads' buffers
 mod fields; // fields.rt: the fields of a line
