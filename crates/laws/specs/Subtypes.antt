@@ -1,7 +1,7 @@
 -- The test `subtype` is the relation of document 01's sentence (`subtype-iff`), and that is an order: reflexive, transitive, and, between
 -- types of 32 names, antisymmetric.
 use Rattle.std.specs.Prelude.{◌≡◌, refl, ◌↔◌, Bool, true, false, ◌&&◌, ℕ, ◌^◌, ◌<◌, eqb}
-use Rattle.std.proofs.Common.{ap, subst, eqb-true, eq-eqb}
+use Rattle.std.proofs.Common.{sym, ap, subst, eqb-true, eq-eqb}
 use Rattle.paper.specs.Sets.{Set, has, within}
 use Rattle.paper.specs.Types.{Ty, Subtype, equal, functions, Way, below, above, same, turned, sets_related, related, subtype}
 use Rattle.laws.specs.Tests.{no_true, not_both, split}
@@ -115,17 +115,24 @@ within_antisym a b h k e f = same_set 32 a b h k (λ i l. go i (within_has a b i
     go i f g false true p q = not_both (has a i) (g q) p
     go i f g false false p q = cc
 
+-- `u` is `s` again, but a type of its own for the cases
+antisym_at : (s : Ty) {t u : Ty} → TyIn 32 s → TyIn 32 t → Subtype s t → Subtype t u → u ≡ s → s ≡ t
+antisym_at Ty.unit h k equal g o = refl
+antisym_at Ty.int h k equal g o = refl
+antisym_at (Ty.lock m) h k equal g o = refl
+antisym_at (Ty.ref m s) h k equal g o = refl
+antisym_at (Ty.fun s p t) h k equal g o = refl
+antisym_at (Ty.fun s p t) h k (functions {q = q} x e y) equal o = sym o
+antisym_at (Ty.fun s p t) h k (functions {s' = s'} {q = q} x e y) (functions {s' = s''} {t' = t''} {q = r} x' e' y') o =
+    let i : s'' ≡ s = cc in
+    let j : r ≡ p = cc in
+    let l : t'' ≡ t = cc in
+    let a = antisym_at s h.0 k.0 (subst (λ z. Subtype z s') i x') x refl in
+    let b = within_antisym p q h.1 k.1 e (subst (λ z. within q z ≡ true) j e') in
+    let c = antisym_at t h.2 k.2 y (y') l in cc
+
 pub below_antisym : (s : Ty) {t : Ty} → TyIn 32 s → TyIn 32 t → Subtype s t → Subtype t s → s ≡ t
-below_antisym Ty.unit h k equal equal = refl
-below_antisym Ty.int h k equal equal = refl
-below_antisym (Ty.lock m) h k equal equal = refl
-below_antisym (Ty.ref m s) h k equal equal = refl
-below_antisym (Ty.fun s p t) h k equal g = refl
-below_antisym (Ty.fun s p t) h k (functions {q = q} x e y) equal = refl
-below_antisym (Ty.fun s p t) h k (functions {q = q} x e y) (functions x' e' y') =
-    let a = below_antisym s h.0 k.0 x' x in
-    let b = within_antisym p q h.1 k.1 e e' in
-    let c = below_antisym t h.2 k.2 y y' in cc
+below_antisym s h k f g = antisym_at s h k f g refl
 
 pub subtype_refl : (t : Ty) → subtype t t ≡ true
 subtype_refl t = subtype_is equal
