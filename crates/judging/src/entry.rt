@@ -7,7 +7,7 @@ use crate::{copies, typing};
 use types::stated::Got;
 
 // What the judge answers: accepted, with the number of the type's bytes; or refused, with the number and the place.
-#[derive(Drop)]
+#[derive(Clone, Copy)]
 pub enum Verdict {
     Accepted(usize),
     Refused(u8, usize),

@@ -57,7 +57,7 @@ pub(crate) fn raise(s: &mut [u8], at: usize, k: u8) -> usize
 }
 
 // The place after the type; or the type mentions the lock, and only its own bytes have changed.
-#[derive(Drop)]
+#[derive(Clone, Copy)]
 pub(crate) enum Low {
     Next(usize),
     Mentions,

@@ -3,7 +3,7 @@ ghost use Rattle.std.specs.Prelude.{◌≡◌, ◌*◌, ◌≤◌};
 ghost use Rattle.judging.specs.Work.{slot};
 
 // The place after the expression and its need, with its type in the slot of the call; or a refusal and its place.
-#[derive(Drop)]
+#[derive(Clone, Copy)]
 pub(crate) enum Answer {
     Typed(usize, u32),
     Refused(u8, usize),

@@ -3,7 +3,7 @@ ghost use Rattle.std.specs.Prelude.{◌+◌, ◌≤◌, ◌≡◌, length};
 ghost use Rattle.std.proofs.Math.Seq.{paste};
 ghost use Rattle.lines.specs.Digits.{Digit, all_digits, number_of, pair_of, spelled, Hexed, is_dash, Field};
 
-#[derive(Drop)]
+#[derive(Clone, Copy)]
 pub enum Number {
     Is(usize),
     Unreadable,

@@ -12,7 +12,7 @@ const NO_SUCH_CODE: u8 = 4;
 const CUT_IMAGE: u8 = 5;
 
 // A code, its place and the place reached; the end of the image; or a refusal's number and place.
-#[derive(Drop)]
+#[derive(Clone, Copy)]
 pub enum Item {
     Code(u8, usize, usize),
     End,
@@ -20,14 +20,14 @@ pub enum Item {
 }
 
 // The place after some fields, or a refusal's number and place.
-#[derive(Drop)]
+#[derive(Clone, Copy)]
 enum Past {
     To(usize),
     Refused(u8, usize),
 }
 
 // A type's code with its name byte, and the place after them: a whole type, or one with types inside; or a refusal.
-#[derive(Drop)]
+#[derive(Clone, Copy)]
 enum TypeCode {
     Whole(usize),
     Ref(usize),
@@ -172,7 +172,7 @@ fn reached(at: usize, item: Item) -> usize
 }
 
 // "a reader that knows the image and the place it has reached"
-#[derive(Drop)]
+#[derive(Clone, Copy)]
 pub struct Reader<'a> {
     pub image: &'a [u8],
     pub at: usize,

@@ -6,7 +6,7 @@ use judging::entry::Verdict;
 use types::stated::Got;
 
 // What a load answers: the first state stands in the state buffer; or refused, with the number and the place.
-#[derive(Drop)]
+#[derive(Clone, Copy)]
 pub enum Loaded {
     Done,
     Refused(u8, usize),

@@ -1,7 +1,7 @@
 // What a step is, before any of it is done.
 
 // What a card has room for.
-#[derive(Drop)]
+#[derive(Clone, Copy)]
 pub(crate) struct Card {
     pub threads: usize,
     pub thread_bytes: usize,
@@ -21,7 +21,7 @@ pub(crate) const SIXTEEN: Card = Card {
 
 // What changes beside the thread. A new cell's value and a new thread are the bytes behind the code of the part that makes the step; the value
 // that a cell is set to is said by the place where it begins in that part.
-#[derive(Drop)]
+#[derive(Clone, Copy)]
 pub(crate) enum Also {
     Nothing,
     NewCell,
@@ -34,7 +34,7 @@ pub(crate) enum Also {
 
 // What the part at the place of evaluation does: none of it, or a kind and a number, how many bytes it becomes (or one more than there is
 // room for), and what else changes.
-#[derive(Drop)]
+#[derive(Clone, Copy)]
 pub(crate) enum Act {
     Stuck,
     Full,

@@ -11,7 +11,7 @@ use crate::numbers::answer_of;
 use crate::step::step_held;
 use places::byte_at;
 
-#[derive(Drop)]
+#[derive(Clone, Copy)]
 pub enum DefaultRun {
     // The steps.
     Ran(u64),

@@ -10,7 +10,7 @@ use crate::numbers::answer_of;
 use crate::step::{Step, step_held};
 use places::byte_at;
 
-#[derive(Drop)]
+#[derive(Clone, Copy)]
 pub struct Ran {
     pub steps: usize,
     pub last: u8,

@@ -16,7 +16,7 @@ use slots::way::place;
 use writing::fill;
 
 // The answer of a step: a kind and a number, or why there was none.
-#[derive(Drop)]
+#[derive(Clone, Copy)]
 pub enum Step {
     Made(u8, usize),
     BufferShort,
@@ -31,7 +31,7 @@ pub enum Step {
 
 // The part of a thread of `used` bytes that makes its next step: from and to, and where its own second part begins in it, if that is known;
 // else 0.
-#[derive(Drop)]
+#[derive(Clone, Copy)]
 struct Due {
     used: usize,
     from: usize,

@@ -1,6 +1,7 @@
 // One place of a lent buffer, or two: what stands there, and a byte put there; and whether a stretch has nothing but zeros. Each function is total: what
 // would reach past the buffer reads as 0 and writes nothing.
 #![tactic(auto)]
+
 ghost use Rattle.std.specs.Prelude.{◌≡◌};
 ghost use Rattle.paper.specs.Base.{at, word16};
 ghost use Rattle.places.specs.Clear.{clear_bytes};

@@ -10,7 +10,7 @@ use types::stated::Got;
 
 // An expression before its last part: read whole, where it has none, with the place after it; refused; or the last part's place, with the
 // variables and the locks that it is under.
-#[derive(Drop)]
+#[derive(Clone, Copy)]
 pub(crate) enum Lead {
     Whole(usize),
     Wrong(u8, usize),

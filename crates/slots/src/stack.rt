@@ -7,7 +7,7 @@ ghost use Rattle.slots.specs.Due.{due, ended as ended·of, after as after·of, p
 use crate::codes::{binds1, binds2, kids};
 
 // What comes next: nothing, or an expression under d binders; sp entries are open around it.
-#[derive(Drop)]
+#[derive(Clone, Copy)]
 pub(crate) struct Next {
     pub(crate) done: bool,
     pub(crate) d: usize,

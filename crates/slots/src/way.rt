@@ -9,7 +9,7 @@ use crate::walk::skip;
 
 // How far evaluation goes: a place, and where the second part of the code there begins, if both its parts are values and evaluation goes into
 // both; else 0. To see that the second is a value the first was passed over, and nobody need do so again.
-#[derive(Drop)]
+#[derive(Clone, Copy)]
 pub struct Reached {
     pub at: usize,
     pub second: usize,

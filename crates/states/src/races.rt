@@ -5,7 +5,7 @@ ghost use Rattle.states.specs.Pairs.{thread_text, ThreadIn, ThreadsIn, aim_by, P
 use places::two_at;
 use slots::way::aim;
 
-#[derive(Drop)]
+#[derive(Clone, Copy)]
 pub enum Race {
     // The two threads, and the cell.
     Between(usize, usize, usize),

@@ -4,7 +4,7 @@ use crate::lines::{accept_line, refuse_line};
 use judging::entry::{Verdict, judge};
 
 // What a function that writes a text answers: its length, or that a lent buffer is too short.
-#[derive(Drop)]
+#[derive(Clone, Copy)]
 pub enum Text {
     Written(usize),
     ShortBuffer,

@@ -12,7 +12,7 @@ use places::byte_at;
 use states::races::Race;
 
 // What came of trying a thread: where its text ends, whether it stepped, and whether the text ends in the race's line.
-#[derive(Drop)]
+#[derive(Clone, Copy)]
 pub(crate) struct Line {
     pub end: usize,
     pub made: bool,

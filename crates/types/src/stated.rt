@@ -4,7 +4,7 @@ ghost use Rattle.paper.specs.Base.{word32};
 ghost use Rattle.types.specs.Contract.{NameRead, SetRead, TypeRead, TypeLed, StatedRead};
 
 // What a reader answers: the place after what it read, or the number of the refusal and its place.
-#[derive(Drop)]
+#[derive(Clone, Copy)]
 pub enum Got {
     Next(usize),
     Refused(u8, usize),
@@ -68,7 +68,7 @@ pub fn read_set(s: &[u8], at: usize, locks: u8) -> Got
 }
 
 // A type before its last part: read whole, where it has none, with the place after it; refused; or the last part's place.
-#[derive(Drop)]
+#[derive(Clone, Copy)]
 pub(crate) enum Lead {
     Whole(usize),
     Wrong(u8, usize),

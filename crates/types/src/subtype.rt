@@ -4,7 +4,7 @@ ghost use Rattle.paper.specs.Types.{turned, sets_related};
 ghost use Rattle.types.specs.Subtype.{way, same_byte, sets_at, Related};
 
 // How two types are held against each other: the same, the first below the second, or above it.
-#[derive(Drop)]
+#[derive(Clone, Copy)]
 pub enum Mode {
     Same,
     Below,
@@ -12,7 +12,7 @@ pub enum Mode {
 }
 
 // So related, with the place after the first type; or not.
-#[derive(Drop)]
+#[derive(Clone, Copy)]
 pub enum Cmp {
     Next(usize),
     Differ,

@@ -8,7 +8,7 @@ use machine::entry::step;
 use machine::run::run;
 
 // A step of a thread, the run of the schedule beside it, or the default run up to a limit.
-#[derive(Drop)]
+#[derive(Clone, Copy)]
 pub(crate) enum Call {
     Step(u64),
     Run,

@@ -7,7 +7,7 @@ use lines::digits::{Number, bytes};
 use lister::next;
 
 // What the fields after the image say: the place, and the answer that is due.
-#[derive(Drop)]
+#[derive(Clone, Copy)]
 enum Said {
     Due(usize, Row),
     Nothing,

@@ -7,7 +7,7 @@ use lines::digits::Number;
 use states::race;
 
 // What the fields after the state say: the answer that is due.
-#[derive(Drop)]
+#[derive(Clone, Copy)]
 enum Said {
     Due(Row),
     Nothing,

@@ -3,7 +3,7 @@ use libc::STDOUT_FILENO;
 
 const KINDS: usize = 9;
 
-#[derive(Drop)]
+#[derive(Clone, Copy)]
 pub(crate) enum Outcome {
     Passed,
     Failed,

@@ -11,7 +11,7 @@ use states::races::Race;
 use texts::entry::Text;
 
 // The answer's number, how many further numbers it has, and these; 0 in place of those that it has not.
-#[derive(Drop)]
+#[derive(Clone, Copy)]
 pub(crate) struct Row {
     pub answer: usize,
     pub count: usize,

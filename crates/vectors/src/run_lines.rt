@@ -7,7 +7,7 @@ use crate::{calls, due, rows};
 use lines::digits::{Number, bytes};
 
 // What the fields after the state say: how long the schedule is or how high the limit, and the answer that is due.
-#[derive(Drop)]
+#[derive(Clone, Copy)]
 enum Said {
     Due(usize, Row),
     Nothing,

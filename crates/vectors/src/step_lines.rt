@@ -6,7 +6,7 @@ use crate::rows::Row;
 use crate::{calls, rows};
 
 // What the fields after the state say: the thread's number, and the answer that is due.
-#[derive(Drop)]
+#[derive(Clone, Copy)]
 enum Said {
     Due(u64, Row),
     Nothing,

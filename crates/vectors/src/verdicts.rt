@@ -2,7 +2,7 @@
 use crate::fields::numbers;
 use judging::entry::Verdict;
 
-#[derive(Drop)]
+#[derive(Clone, Copy)]
 pub(crate) enum Said {
     Due(Verdict),
     Nothing,

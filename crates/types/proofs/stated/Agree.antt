@@ -9,7 +9,7 @@ use lib.Dec.{leb, ltb, eqb}
 use lib.ListN.{length, get_or}
 use borrow.Author.Tests.{le-ltb, lt-ltb, le-leb, lt-leb, ltb-true, ltb-false, leb-true, leb-false}
 use Rattle.paper.specs.Base.{choose, at, word32}
-use Rattle.paper.specs.Types.{Ty, unit, int, lock, ref, fun}
+use Rattle.paper.specs.Types.{Ty, lock, ref, fun}
 use Rattle.paper.specs.Reading.{Read, got, wrong, Reader, ◌>>=◌, return, wrong_at, field, byte, word, code_due, lock_name, lock_set, read_type, read_stated, type_code}
 use Rattle.types.specs.Stated.{◌then◌, pick, name_at, set_at, Tag, ended, tag_of, tag_at, too_deep, ty_as, ty_at, sized, stated_at}
 use Rattle.types.specs.declared.stated.Got.{Got}
