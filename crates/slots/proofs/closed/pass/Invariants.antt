@@ -1,0 +1,15 @@
+use mathlib.Core.Path.{refl, sym, ◌∙◌}
+use Prim.Native.Nat.{◌-◌}
+use native.Mathlib.Omega.{arith}
+use lib.ListN.{length}
+use borrow.Author.Tests.{not-true, not-false}
+use Rattle.slots.specs.ClosedLoop.{Passing, passing_start, passing_over, passing_end, passing_short, passing_uncoded, passing_unbound}
+use Rattle.slots.specs.ClosedLoop.{passing_cut, passing_full, passing_on}
+use borrow.Author.Rules.{rules}
+use Rattle.slots.proofs.closed.pass.Given as goal
+
+abbrev pub invariant-loop-i : goal.invariant-loop-i
+invariant-loop-i l = Passing l.nl l.nc l.s l.stack l.next.done l.next.d l.next.sp l.n l.i
+
+abbrev pub decreases-loop-i : goal.decreases-loop-i
+decreases-loop-i l = length l.s - l.i
