@@ -17,12 +17,12 @@ pass-r-requires c = sym (lent_length (length c.args.s.now) c.args.stack.now c.if
 
 pub slice_bounds-clear-end-2 : goal.slice_bounds-clear-end-2
 slice_bounds-clear-end-2 c =
-    lent_again (length c.args.s.now) c.args.stack.now c.if-stack-n.false c.pass-r.new.1.1.1.0
+    lent_again (length c.args.s.now) c.args.stack.now c.if-stack-n.false c.pass-r.new.stack
     c.pass-r.auto.stack
 
 pub returns : goal.returns
 returns c =
     closed_by _ _ c.args.s.now c.args.stack.now c.if-stack-n.false c.pass-r.result c.pass-r.ensures
     _
-    (swept_all (length c.args.s.now) c.args.stack.now c.if-stack-n.false c.pass-r.new.1.1.1.0
-    c.pass-r.auto.stack c.clear.new.0 c.clear.ensures)
+    (swept_all (length c.args.s.now) c.args.stack.now c.if-stack-n.false c.pass-r.new.stack
+    c.pass-r.auto.stack c.clear.new.s c.clear.ensures)

@@ -4,7 +4,6 @@ use mathlib.Core.Path.{refl, sym, ◌∙◌}
 use Prim.Native.Nat.{◌-◌}
 use native.Mathlib.Omega.{arith}
 use lib.ListN.{length}
-use borrow.Author.Tests.{not-true, not-false}
 use Rattle.slots.specs.ClosedLoop.{Passing, passing_start, passing_over, passing_end, passing_short, passing_uncoded, passing_unbound}
 use Rattle.slots.specs.ClosedLoop.{passing_cut, passing_full, passing_on}
 use borrow.Author.Rules.{rules}
@@ -19,26 +18,26 @@ returns-then-next c = passing_over c.loop-i.invariant c.loop-i-test.true c.if-ne
 pub returns-then-not-is_code : goal.returns-then-not-is_code
 returns-then-not-is_code c =
     passing_uncoded c.loop-i.invariant c.loop-i-test.true c.if-next.false
-    (sym c.is_code.ensures ∙ not-true _ c.if-not-is_code.true)
+    (sym c.is_code.ensures ∙ c.if-not-is_code.true)
 
 pub returns-then-not-field_ok : goal.returns-then-not-field_ok
 returns-then-not-field_ok c =
     passing_unbound c.loop-i.invariant c.loop-i-test.true c.if-next.false
-    (sym c.is_code.ensures ∙ not-false _ c.if-not-is_code.false) c.byte.result c.byte.ensures.says
-    (sym c.field_ok.ensures ∙ not-true _ c.if-not-field_ok.true)
+    (sym c.is_code.ensures ∙ c.if-not-is_code.false) c.byte.result c.byte.ensures.says
+    (sym c.field_ok.ensures ∙ c.if-not-field_ok.true)
 
 pub returns-then-s-i : goal.returns-then-s-i
 returns-then-s-i c =
     passing_cut c.loop-i.invariant c.loop-i-test.true c.if-next.false
-    (sym c.is_code.ensures ∙ not-false _ c.if-not-is_code.false) c.byte.result c.byte.ensures.says
-    (sym c.field_ok.ensures ∙ not-false _ c.if-not-field_ok.false) c.fields-w.result
+    (sym c.is_code.ensures ∙ c.if-not-is_code.false) c.byte.result c.byte.ensures.says
+    (sym c.field_ok.ensures ∙ c.if-not-field_ok.false) c.fields-w.result
     c.fields-w.ensures.says (omega arith)
 
 pub returns-then-stack-sp : goal.returns-then-stack-sp
 returns-then-stack-sp c =
     passing_full c.loop-i.invariant c.loop-i-test.true c.if-next.false
-    (sym c.is_code.ensures ∙ not-false _ c.if-not-is_code.false) c.byte.result c.byte.ensures.says
-    (sym c.field_ok.ensures ∙ not-false _ c.if-not-field_ok.false) c.fields-w.result
+    (sym c.is_code.ensures ∙ c.if-not-is_code.false) c.byte.result c.byte.ensures.says
+    (sym c.field_ok.ensures ∙ c.if-not-field_ok.false) c.fields-w.result
     c.fields-w.ensures.says (omega (arith, c.pushes.ensures, c.if-stack-sp.true))
 
 pub after-next-requires : goal.after-next-requires
@@ -51,8 +50,8 @@ after-next-requires c =
 pub loop-i-preserved : goal.loop-i-preserved
 loop-i-preserved c =
     passing_on c.loop-i.invariant c.loop-i-test.true c.if-next.false
-    (sym c.is_code.ensures ∙ not-false _ c.if-not-is_code.false) c.byte.result c.byte.ensures.says
-    (sym c.field_ok.ensures ∙ not-false _ c.if-not-field_ok.false) c.fields-w.result
+    (sym c.is_code.ensures ∙ c.if-not-is_code.false) c.byte.result c.byte.ensures.says
+    (sym c.field_ok.ensures ∙ c.if-not-field_ok.false) c.fields-w.result
     c.fields-w.ensures.says _ refl (omega arith)
     (omega (arith, c.pushes.ensures, c.if-stack-sp.false, c.loop-i.invariant.long, c.loop-i.invariant.top))
     c.opening-n.result c.opening-n.ensures.says c.after-next.auto.stack c.after-next.ensures

@@ -2,7 +2,6 @@ use mathlib.Core.Path.{refl, sym, ◌∙◌}
 use Prim.Native.Nat.{◌-◌}
 use native.Mathlib.Omega.{arith}
 use lib.ListN.{length}
-use borrow.Author.Tests.{not-true, not-false}
 use Rattle.slots.specs.ClosedLoop.{Passing, passing_start, passing_over, passing_end, passing_short, passing_uncoded, passing_unbound}
 use Rattle.slots.specs.ClosedLoop.{passing_cut, passing_full, passing_on}
 use borrow.Author.Rules.{rules}

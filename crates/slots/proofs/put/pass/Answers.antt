@@ -11,7 +11,7 @@ use Rattle.slots.specs.PutLoop.{putting_short, putting_value, putting_stack, put
 use Rattle.slots.proofs.put.pass.Goals as goal
 
 pub loop-i-init : goal.loop-i-init
-loop-i-init c = putting_start c.args.src.now c.args.v.now c.args.dst.now c.args.at c.requires.0 c.args.stack.now c.requires.1
+loop-i-init c = putting_start c.args.src.now c.args.v.now c.args.dst.now c.args.at c.requires.at_in_bounds c.args.stack.now c.requires.stack_len
 
 pub slice_bounds-fill-count : goal.slice_bounds-fill-count
 slice_bounds-fill-count c = c.loop-i.invariant.low

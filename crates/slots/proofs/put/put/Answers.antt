@@ -15,10 +15,14 @@ pub slice_bounds-pass-end-2 : goal.slice_bounds-pass-end-2
 slice_bounds-pass-end-2 c = lent_length (2 * length c.args.src.now) c.args.stack.now (omega (arith, c.if-stack-n.false))
 
 pub pass-r-requires : goal.pass-r-requires
-pass-r-requires c = (omega (arith, c.least-from.ensures), sym (lent_length (2 * length c.args.src.now) c.args.stack.now (omega (arith, c.if-stack-n.false))))
+pass-r-requires c =
+    record {
+      at_in_bounds = omega (arith, c.least-from.ensures);
+      stack_len = sym (lent_length (2 * length c.args.src.now) c.args.stack.now (omega (arith, c.if-stack-n.false)));
+    }
 
 pub slice_bounds-clear-end-2 : goal.slice_bounds-clear-end-2
-slice_bounds-clear-end-2 c = lent_again (2 * length c.args.src.now) c.args.stack.now (omega (arith, c.if-stack-n.false)) c.pass-r.new.1.1.1.1.0 c.pass-r.auto.stack
+slice_bounds-clear-end-2 c = lent_again (2 * length c.args.src.now) c.args.stack.now (omega (arith, c.if-stack-n.false)) c.pass-r.new.stack c.pass-r.auto.stack
 
 pub returns : goal.returns
-returns c = put_by c.args.src.now c.args.v.now c.args.dst.now c.args.stack.now c.args.at c.least-from.result c.least-from.ensures (omega (arith, c.if-stack-n.false)) c.pass-r.ensures (swept_all (2 * length c.args.src.now) c.args.stack.now (omega (arith, c.if-stack-n.false)) c.pass-r.new.1.1.1.1.0 c.pass-r.auto.stack c.clear.new.0 c.clear.ensures)
+returns c = put_by c.args.src.now c.args.v.now c.args.dst.now c.args.stack.now c.args.at c.least-from.result c.least-from.ensures (omega (arith, c.if-stack-n.false)) c.pass-r.ensures (swept_all (2 * length c.args.src.now) c.args.stack.now (omega (arith, c.if-stack-n.false)) c.pass-r.new.stack c.pass-r.auto.stack c.clear.new.s c.clear.ensures)

@@ -3,7 +3,6 @@ use mathlib.Core.Path.{sym, ◌∙◌}
 use Prim.Native.Nat.{◌-◌}
 use native.Mathlib.Omega.{arith}
 use lib.ListN.{length}
-use borrow.Author.Tests.{not-true, not-false}
 use Rattle.slots.specs.Walk.{Skipping, skipping_start, skipping_over, skipping_end, skipping_bad, skipping_cut, skipping_on}
 use borrow.Author.Rules.{rules}
 use Rattle.slots.proofs.walk.skip.Goals as goal
@@ -17,18 +16,18 @@ returns-then-need-eq0 c = skipping_over c.loop-i.invariant c.if-need-eq0.true
 pub returns-then-not-is_code : goal.returns-then-not-is_code
 returns-then-not-is_code c =
     skipping_bad c.loop-i.invariant c.loop-i-test.true (omega arith)
-    (sym c.is_code.ensures ∙ not-true _ c.if-not-is_code.true)
+    (sym c.is_code.ensures ∙ c.if-not-is_code.true)
 
 pub returns-then-s-i : goal.returns-then-s-i
 returns-then-s-i c =
     skipping_cut c.loop-i.invariant c.loop-i-test.true (omega arith)
-    (sym c.is_code.ensures ∙ not-false _ c.if-not-is_code.false) c.width-w.result
+    (sym c.is_code.ensures ∙ c.if-not-is_code.false) c.width-w.result
     c.width-w.ensures.says (omega arith)
 
 pub loop-i-preserved : goal.loop-i-preserved
 loop-i-preserved c =
     skipping_on c.loop-i.invariant c.loop-i-test.true (omega arith)
-    (sym c.is_code.ensures ∙ not-false _ c.if-not-is_code.false) c.width-w.result
+    (sym c.is_code.ensures ∙ c.if-not-is_code.false) c.width-w.result
     c.width-w.ensures.says (omega arith) c.kids.result c.kids.ensures.says
 
 pub returns-then-need-gt0 : goal.returns-then-need-gt0

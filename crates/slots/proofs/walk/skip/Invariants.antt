@@ -2,7 +2,6 @@ use mathlib.Core.Path.{sym, ◌∙◌}
 use Prim.Native.Nat.{◌-◌}
 use native.Mathlib.Omega.{arith}
 use lib.ListN.{length}
-use borrow.Author.Tests.{not-true, not-false}
 use Rattle.slots.specs.Walk.{Skipping, skipping_start, skipping_over, skipping_end, skipping_bad, skipping_cut, skipping_on}
 use borrow.Author.Rules.{rules}
 use Rattle.slots.proofs.walk.skip.Given as goal
