@@ -3,7 +3,6 @@ use mathlib.Core.Path.{sym}
 use lib.ListN.{length}
 use Rattle.slots.specs.Lent.{lent_length, lent_again, swept_all}
 use Rattle.slots.specs.ClosedLoop.{closed_short, closed_by}
-use borrow.Author.Rules.{rules}
 use Rattle.slots.proofs.closed.closed.Goals as goal
 
 pub returns-then-stack-n : goal.returns-then-stack-n
@@ -25,4 +24,4 @@ returns c =
     closed_by _ _ c.args.s.now c.args.stack.now c.if-stack-n.false c.pass-r.result c.pass-r.ensures
     _
     (swept_all (length c.args.s.now) c.args.stack.now c.if-stack-n.false c.pass-r.new.stack
-    c.pass-r.auto.stack c.clear.new.s c.clear.ensures)
+    c.pass-r.auto.stack c.clear.new.part c.clear.ensures)

@@ -1,12 +1,9 @@
 -- What is to come decides: the loop keeps the stack, the binders and the count of open sections, and each way out is one law of
 -- `ClosedLoop`.
 use mathlib.Core.Path.{refl, sym, ◌∙◌}
-use Prim.Native.Nat.{◌-◌}
 use native.Mathlib.Omega.{arith}
-use lib.ListN.{length}
-use Rattle.slots.specs.ClosedLoop.{Passing, passing_start, passing_over, passing_end, passing_short, passing_uncoded, passing_unbound}
+use Rattle.slots.specs.ClosedLoop.{passing_start, passing_over, passing_end, passing_short, passing_uncoded, passing_unbound}
 use Rattle.slots.specs.ClosedLoop.{passing_cut, passing_full, passing_on}
-use borrow.Author.Rules.{rules}
 use Rattle.slots.proofs.closed.pass.Goals as goal
 
 pub loop-i-init : goal.loop-i-init

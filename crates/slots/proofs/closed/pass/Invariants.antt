@@ -1,10 +1,6 @@
-use mathlib.Core.Path.{refl, sym, ◌∙◌}
 use Prim.Native.Nat.{◌-◌}
-use native.Mathlib.Omega.{arith}
 use lib.ListN.{length}
-use Rattle.slots.specs.ClosedLoop.{Passing, passing_start, passing_over, passing_end, passing_short, passing_uncoded, passing_unbound}
-use Rattle.slots.specs.ClosedLoop.{passing_cut, passing_full, passing_on}
-use borrow.Author.Rules.{rules}
+use Rattle.slots.specs.ClosedLoop.{Passing}
 use Rattle.slots.proofs.closed.pass.Given as goal
 
 abbrev pub invariant-loop-i : goal.invariant-loop-i

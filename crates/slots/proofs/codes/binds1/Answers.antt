@@ -2,7 +2,6 @@
 use mathlib.Core.Path.{sym}
 use native.Mathlib.Omega.{arith}
 use Rattle.slots.specs.Codes.{bind1≤, past_bind1, packed_bind1}
-use borrow.Author.Rules.{rules}
 use Rattle.slots.proofs.codes.binds1.Goals as goal
 
 pub returns-then-c-gt18 : goal.returns-then-c-gt18

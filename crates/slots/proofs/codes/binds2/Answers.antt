@@ -2,7 +2,6 @@
 use mathlib.Core.Path.{sym}
 use native.Mathlib.Omega.{arith}
 use Rattle.slots.specs.Codes.{bind2≤, past_bind2, packed_bind2}
-use borrow.Author.Rules.{rules}
 use Rattle.slots.proofs.codes.binds2.Goals as goal
 
 pub returns-then-c-gt18 : goal.returns-then-c-gt18

@@ -2,7 +2,6 @@
 use mathlib.Core.Path.{sym}
 use native.Mathlib.Omega.{arith}
 use lib.ListN.{get_or-eq_default}
-use borrow.Author.Rules.{rules}
 use Rattle.slots.proofs.codes.byte.Goals as goal
 
 pub returns-then-s-i : goal.returns-then-s-i

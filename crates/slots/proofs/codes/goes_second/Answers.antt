@@ -2,7 +2,6 @@
 use mathlib.Core.Path.{sym}
 use native.Mathlib.Omega.{arith}
 use Rattle.slots.specs.Codes.{past_goes2, packed_goes2}
-use borrow.Author.Rules.{rules}
 use Rattle.slots.proofs.codes.goes_second.Goals as goal
 
 pub returns-then-c-gt18 : goal.returns-then-c-gt18

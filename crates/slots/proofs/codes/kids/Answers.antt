@@ -2,7 +2,6 @@
 use mathlib.Core.Path.{sym}
 use native.Mathlib.Omega.{arith}
 use Rattle.slots.specs.Codes.{kids≤, past_kids, packed_kids}
-use borrow.Author.Rules.{rules}
 use Rattle.slots.proofs.codes.kids.Goals as goal
 
 pub returns-then-c-gt18 : goal.returns-then-c-gt18

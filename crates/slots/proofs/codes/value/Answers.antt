@@ -2,7 +2,6 @@
 use mathlib.Core.Path.{sym}
 use native.Mathlib.Omega.{arith}
 use Rattle.slots.specs.Codes.{past_value, packed_value}
-use borrow.Author.Rules.{rules}
 use Rattle.slots.proofs.codes.value.Goals as goal
 
 pub returns-then-c-gt18 : goal.returns-then-c-gt18

@@ -1,7 +1,6 @@
 -- The packed table is `field_of`'s own, each entry with the code counted too.
 use native.Mathlib.Omega.{arith}
 use Rattle.slots.specs.Codes.{fields≤, past_fields, packed_widths}
-use borrow.Author.Rules.{rules}
 use Rattle.slots.proofs.codes.width.Goals as goal
 
 pub returns-then-c-gt18 : goal.returns-then-c-gt18

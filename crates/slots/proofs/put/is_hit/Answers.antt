@@ -1,7 +1,6 @@
 -- The tests are `hit`'s.
 use mathlib.Core.Path.{sym}
 use borrow.Author.Tests.{ne_eqb, eq-eqb, lt-ltb, le-ltb}
-use borrow.Author.Rules.{rules}
 use Rattle.slots.specs.Put.{hit}
 use Rattle.slots.proofs.put.is_hit.Goals as goal
 

@@ -1,12 +1,7 @@
 -- What is written, the stretch up to here and what is to come are the whole; no bytes take more of the stack than there is (`PutLoop`).
 use mathlib.Core.Path.{sym, ◌∙◌}
-use mathlib.Core.List.{◌++◌}
-use Prim.Native.Nat.{◌-◌}
 use native.Mathlib.Omega.{arith}
-use lib.ListN.{length, take}
-use borrow.Author.Rules.{rules}
-use Rattle.slots.specs.Put.{put_of}
-use Rattle.slots.specs.PutLoop.{Putting, putting_start, putting_end, putting_over, putting_length}
+use Rattle.slots.specs.PutLoop.{putting_start, putting_end, putting_over, putting_length}
 use Rattle.slots.specs.PutLoop.{putting_short, putting_value, putting_stack, putting_code}
 use Rattle.slots.proofs.put.pass.Goals as goal
 

@@ -3,7 +3,6 @@ use mathlib.Core.Path.{sym}
 use Prim.Native.Nat.{◌*◌}
 use native.Mathlib.Omega.{arith}
 use lib.ListN.{length}
-use borrow.Author.Rules.{rules}
 use Rattle.slots.specs.Lent.{lent_length, lent_again, swept_all}
 use Rattle.slots.specs.PutLoop.{put_short, put_by}
 use Rattle.slots.proofs.put.put.Goals as goal
@@ -25,4 +24,4 @@ pub slice_bounds-clear-end-2 : goal.slice_bounds-clear-end-2
 slice_bounds-clear-end-2 c = lent_again (2 * length c.args.src.now) c.args.stack.now (omega (arith, c.if-stack-n.false)) c.pass-r.new.stack c.pass-r.auto.stack
 
 pub returns : goal.returns
-returns c = put_by c.args.src.now c.args.v.now c.args.dst.now c.args.stack.now c.args.at c.least-from.result c.least-from.ensures (omega (arith, c.if-stack-n.false)) c.pass-r.ensures (swept_all (2 * length c.args.src.now) c.args.stack.now (omega (arith, c.if-stack-n.false)) c.pass-r.new.stack c.pass-r.auto.stack c.clear.new.s c.clear.ensures)
+returns c = put_by c.args.src.now c.args.v.now c.args.dst.now c.args.stack.now c.args.at c.least-from.result c.least-from.ensures (omega (arith, c.if-stack-n.false)) c.pass-r.ensures (swept_all (2 * length c.args.src.now) c.args.stack.now (omega (arith, c.if-stack-n.false)) c.pass-r.new.stack c.pass-r.auto.stack c.clear.new.part c.clear.ensures)

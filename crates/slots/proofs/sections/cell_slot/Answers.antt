@@ -1,7 +1,6 @@
 -- The ways of `Slot`.
 use mathlib.Core.Path.{sym, subst}
 use Rattle.slots.specs.Slot.{CellSlot, cell_none, cell_by, cell_empty}
-use borrow.Author.Rules.{rules}
 use Rattle.slots.proofs.sections.cell_slot.Goals as goal
 
 pub returns-then-closed-ne1 : goal.returns-then-closed-ne1

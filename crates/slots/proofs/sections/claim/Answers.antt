@@ -2,7 +2,6 @@
 use mathlib.Core.Path.{sym, ◌∙◌}
 use Rattle.slots.specs.Sections.{mark_in}
 use Rattle.slots.specs.SectionsLoop.{claim_nothing, claim_taken, claim_refused}
-use borrow.Author.Rules.{rules}
 use Rattle.slots.proofs.sections.claim.Goals as goal
 
 pub returns-then-byte-ne18 : goal.returns-then-byte-ne18

@@ -1,10 +1,7 @@
 -- The sections from here on, held against the marks that are left, answer for them all.
-use Prim.Native.Nat.{◌-◌}
 use native.Mathlib.Omega.{arith}
-use lib.ListN.{length}
 use Rattle.slots.specs.Sections.{claimed_length}
-use Rattle.slots.specs.SectionsLoop.{Opening, opening_start, opening_fails, opening_ends, opening_on, opening_past, claim_few}
-use borrow.Author.Rules.{rules}
+use Rattle.slots.specs.SectionsLoop.{opening_start, opening_fails, opening_ends, opening_on, opening_past, claim_few}
 use Rattle.slots.proofs.sections.open_sections.Goals as goal
 
 pub loop-p-init : goal.loop-p-init

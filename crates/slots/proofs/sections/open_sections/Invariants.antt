@@ -1,9 +1,6 @@
 use Prim.Native.Nat.{◌-◌}
-use native.Mathlib.Omega.{arith}
 use lib.ListN.{length}
-use Rattle.slots.specs.Sections.{claimed_length}
-use Rattle.slots.specs.SectionsLoop.{Opening, opening_start, opening_fails, opening_ends, opening_on, opening_past, claim_few}
-use borrow.Author.Rules.{rules}
+use Rattle.slots.specs.SectionsLoop.{Opening}
 use Rattle.slots.proofs.sections.open_sections.Given as goal
 
 abbrev pub invariant-loop-p : goal.invariant-loop-p

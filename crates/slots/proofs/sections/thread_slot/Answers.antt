@@ -1,6 +1,5 @@
 -- The ways of `Slot`.
 use Rattle.slots.specs.Slot.{thread_none, thread_by}
-use borrow.Author.Rules.{rules}
 use Rattle.slots.proofs.sections.thread_slot.Goals as goal
 
 pub returns-then-n-eq0 : goal.returns-then-n-eq0

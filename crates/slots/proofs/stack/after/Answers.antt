@@ -7,7 +7,6 @@ use lib.ListN.{length-set}
 use Rattle.slots.specs.Codes.{kids_of}
 use Rattle.slots.specs.Due.{due, stack_of, push_one, push_two, push_three, stack_push, after_leaf, after_plain, after_bind, after_two}
 use Rattle.slots.specs.Due.{after_three}
-use borrow.Author.Rules.{rules}
 use Rattle.slots.proofs.stack.after.Goals as goal
 
 pub returns-then-k-eq0 : goal.returns-then-k-eq0

@@ -1,11 +1,10 @@
 -- The loop drops the ends of scopes; what `ended` says of the entries that are left stays the same.
-use mathlib.Core.Path.{◌≡◌, refl, sym, ap, ◌∙◌}
+use mathlib.Core.Path.{refl, sym, ap, ◌∙◌}
 use mathlib.Core.List.{List}
-use Prim.Native.Nat.{ℕ, ◌+◌, ◌-◌, ◌≤◌}
+use Prim.Native.Nat.{ℕ, ◌+◌, ◌-◌}
 use native.Mathlib.Omega.{arith}
 use lib.ListN.{length, length-set}
 use Rattle.slots.specs.Due.{due, ended, stack_of, stack_change, ended_part, ended_let, ended_scope, ended_none}
-use borrow.Author.Rules.{rules}
 use Rattle.slots.proofs.stack.ended.Goals as goal
 
 pub loop-n-init : goal.loop-n-init
@@ -42,15 +41,14 @@ returns-then-k-eq1 c =
     }
 
 pub loop-n-preserved : goal.loop-n-preserved
-loop-n-preserved c =
-    (
-      omega arith,
-      omega arith,
-      c.loop-n.invariant.2,
-      ap (λ (k : ℕ). ended k (stack_of c.loop-n.stack (c.loop-n.n - 1))) c.less-depth.ensures
-          ∙ sym (ended_scope c.loop-n.stack c.loop-n.n c.loop-n.depth c.loop-n-test.true
-          c.if-k-eq0.false c.if-k-eq1.false) ∙ c.loop-n.invariant.3,
-    )
+loop-n-preserved c = (
+  omega arith,
+  omega arith,
+  c.loop-n.invariant.2,
+  ap (λ (k : ℕ). ended k (stack_of c.loop-n.stack (c.loop-n.n - 1))) c.less-depth.ensures
+      ∙ sym (ended_scope c.loop-n.stack c.loop-n.n c.loop-n.depth c.loop-n-test.true
+      c.if-k-eq0.false c.if-k-eq1.false) ∙ c.loop-n.invariant.3,
+)
 
 pub returns : goal.returns
 returns c =

@@ -1,10 +1,6 @@
-use mathlib.Core.Path.{◌≡◌, refl, sym, ap, ◌∙◌}
-use mathlib.Core.List.{List}
-use Prim.Native.Nat.{ℕ, ◌+◌, ◌-◌, ◌≤◌}
-use native.Mathlib.Omega.{arith}
-use lib.ListN.{length, length-set}
-use Rattle.slots.specs.Due.{due, ended, stack_of, stack_change, ended_part, ended_let, ended_scope, ended_none}
-use borrow.Author.Rules.{rules}
+use mathlib.Core.Path.{◌≡◌}
+use Prim.Native.Nat.{◌≤◌}
+use Rattle.slots.specs.Due.{ended, stack_of}
 use Rattle.slots.proofs.stack.ended.Given as goal
 
 abbrev pub invariant-loop-n : goal.invariant-loop-n

@@ -4,7 +4,6 @@ use mathlib.Core.List.{List}
 use Prim.Native.Nat.{ℕ}
 use native.Mathlib.Omega.{arith}
 use Rattle.slots.specs.Due.{due, stack_push}
-use borrow.Author.Rules.{rules}
 use Rattle.slots.proofs.stack.push.Goals as goal
 
 pub returns : goal.returns

@@ -2,7 +2,6 @@
 use mathlib.Core.Path.{sym, ◌∙◌}
 use native.Mathlib.Omega.{arith}
 use Rattle.slots.specs.Due.{push_one, push_more}
-use borrow.Author.Rules.{rules}
 use Rattle.slots.proofs.stack.pushes.Goals as goal
 
 pub returns-then-k-eq1 : goal.returns-then-k-eq1

@@ -1,10 +1,7 @@
 -- The loop keeps what is to come: from i on, `need` expressions are due. Each way out is one law of `Walk`.
 use mathlib.Core.Path.{sym, ◌∙◌}
-use Prim.Native.Nat.{◌-◌}
 use native.Mathlib.Omega.{arith}
-use lib.ListN.{length}
-use Rattle.slots.specs.Walk.{Skipping, skipping_start, skipping_over, skipping_end, skipping_bad, skipping_cut, skipping_on}
-use borrow.Author.Rules.{rules}
+use Rattle.slots.specs.Walk.{skipping_start, skipping_over, skipping_end, skipping_bad, skipping_cut, skipping_on}
 use Rattle.slots.proofs.walk.skip.Goals as goal
 
 pub loop-i-init : goal.loop-i-init

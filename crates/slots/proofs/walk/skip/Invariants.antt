@@ -1,9 +1,6 @@
-use mathlib.Core.Path.{sym, ◌∙◌}
 use Prim.Native.Nat.{◌-◌}
-use native.Mathlib.Omega.{arith}
 use lib.ListN.{length}
-use Rattle.slots.specs.Walk.{Skipping, skipping_start, skipping_over, skipping_end, skipping_bad, skipping_cut, skipping_on}
-use borrow.Author.Rules.{rules}
+use Rattle.slots.specs.Walk.{Skipping}
 use Rattle.slots.proofs.walk.skip.Given as goal
 
 abbrev pub invariant-loop-i : goal.invariant-loop-i

@@ -1,6 +1,5 @@
 -- What the code at the place reads or writes.
 use Rattle.slots.specs.WayLoop.{aimed}
-use borrow.Author.Rules.{rules}
 use Rattle.slots.proofs.way.aim.Goals as goal
 
 pub returns : goal.returns

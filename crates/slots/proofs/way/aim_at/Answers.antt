@@ -2,7 +2,6 @@
 use mathlib.Core.Path.{◌∙◌}
 use native.Mathlib.Omega.{arith}
 use Rattle.slots.specs.WayLoop.{aim_read, aim_write, aim_none}
-use borrow.Author.Rules.{rules}
 use Rattle.slots.proofs.way.aim_at.Goals as goal
 
 pub returns-then-c-eq7 : goal.returns-then-c-eq7

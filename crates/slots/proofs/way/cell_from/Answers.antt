@@ -1,7 +1,6 @@
 -- The test is `cell_from`'s.
 use native.Mathlib.Omega.{arith}
 use Rattle.slots.specs.WayLoop.{cell_here, cell_none}
-use borrow.Author.Rules.{rules}
 use Rattle.slots.proofs.way.cell_from.Goals as goal
 
 pub returns-then-byte-eq17 : goal.returns-then-byte-eq17

@@ -2,7 +2,6 @@
 use mathlib.Core.Path.{sym, ◌∙◌}
 use native.Mathlib.Omega.{arith}
 use Rattle.slots.specs.WayLoop.{on_stop, on_cut, on_first, on_one, on_none, on_end, on_both, on_second}
-use borrow.Author.Rules.{rules}
 use Rattle.slots.proofs.way.onward.Goals as goal
 
 pub returns-then-not-goes_first : goal.returns-then-not-goes_first

@@ -1,8 +1,5 @@
 -- The rest of the way ends where the way does.
-use Prim.Native.Nat.{◌-◌}
-use lib.ListN.{length}
-use Rattle.slots.specs.WayLoop.{Placing, placing_start, placing_here, placing_on, placing_end}
-use borrow.Author.Rules.{rules}
+use Rattle.slots.specs.WayLoop.{placing_start, placing_here, placing_on, placing_end}
 use Rattle.slots.proofs.way.place.Goals as goal
 
 pub loop-p-init : goal.loop-p-init

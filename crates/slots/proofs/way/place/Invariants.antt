@@ -1,7 +1,6 @@
 use Prim.Native.Nat.{◌-◌}
 use lib.ListN.{length}
-use Rattle.slots.specs.WayLoop.{Placing, placing_start, placing_here, placing_on, placing_end}
-use borrow.Author.Rules.{rules}
+use Rattle.slots.specs.WayLoop.{Placing}
 use Rattle.slots.proofs.way.place.Given as goal
 
 abbrev pub invariant-loop-p : goal.invariant-loop-p
