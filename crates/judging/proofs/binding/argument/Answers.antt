@@ -2,7 +2,6 @@
 use native.Mathlib.Omega.{arith}
 use Rattle.judging.proofs.binding.Env.{here, few_vars, enter_some, enter_room, enter_lam}
 use Rattle.judging.proofs.binding.Start.{own_read, starts, start_lam}
-use borrow.Author.Rules.{rules}
 use Rattle.judging.proofs.binding.argument.Goals as goal
 
 pub overflow_add-at : goal.overflow_add-at

@@ -2,7 +2,6 @@
 use native.Mathlib.Omega.{arith}
 use Rattle.judging.proofs.binding.Env.{bind_movable, bind_let}
 use Rattle.judging.proofs.typing.One.{some_left}
-use borrow.Author.Rules.{rules}
 use Rattle.judging.proofs.binding.bind.Goals as goal
 
 pub overflow_sub-left : goal.overflow_sub-left

@@ -2,7 +2,6 @@
 use native.Mathlib.Omega.{arith}
 use lib.ListN.{length-set}
 use Rattle.judging.proofs.binding.Env.{few_vars, enter_lock}
-use borrow.Author.Rules.{rules}
 use Rattle.judging.proofs.binding.new_name.Goals as goal
 
 pub bounds-work-to-2 : goal.bounds-work-to-2

@@ -2,7 +2,6 @@
 use native.Mathlib.Omega.{arith}
 use Rattle.judging.proofs.binding.Leaves.{leaf_num}
 use Rattle.judging.proofs.binding.Start.{after_num}
-use borrow.Author.Rules.{rules}
 use Rattle.judging.proofs.binding.number.Goals as goal
 
 pub overflow_add-result : goal.overflow_add-result

@@ -2,7 +2,6 @@
 use native.Mathlib.Omega.{arith}
 use Rattle.judging.proofs.binding.Leaves.{leaf_unit}
 use Rattle.judging.proofs.binding.Start.{after_unit}
-use borrow.Author.Rules.{rules}
 use Rattle.judging.proofs.binding.unit.Goals as goal
 
 pub overflow_add-result : goal.overflow_add-result

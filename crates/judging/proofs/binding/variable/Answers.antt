@@ -2,7 +2,6 @@
 use native.Mathlib.Omega.{arith}
 use Rattle.judging.proofs.binding.Leaves.{var_movable, index_in, var_level, var_able, leaf_var}
 use Rattle.judging.proofs.binding.Start.{after_var}
-use borrow.Author.Rules.{rules}
 use Rattle.judging.proofs.binding.variable.Goals as goal
 
 pub overflow_add-index : goal.overflow_add-index

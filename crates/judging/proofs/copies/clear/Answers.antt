@@ -2,7 +2,6 @@
 use mathlib.Core.Path.{sym}
 use native.Mathlib.Omega.{arith}
 use lib.Seq.{length-take-le}
-use borrow.Author.Rules.{rules}
 use Rattle.zeros.specs.First.{first_zero}
 use Rattle.paper.specs.Calls.{zeroed, work_bytes}
 use Rattle.judging.proofs.copies.clear.Goals as goal

@@ -1,8 +1,7 @@
 -- `judging::copies::copy` meets its contract.
-use Prim.Native.Nat.{ℕ, ◌-◌, ◌≤◌}
+use Prim.Native.Nat.{ℕ, ◌-◌}
 use native.Mathlib.Omega.{arith}
 use mathlib.Core.Path.{◌≡◌, refl, subst}
-use borrow.Author.Rules.{rules}
 use Rattle.judging.specs.Copies.{Copied}
 use Rattle.judging.proofs.copies.Laws.{moved_leaf, end_here, none, more, move_room, unmoved, moved}
 use Rattle.judging.proofs.copies.copy.Goals as goal

@@ -1,9 +1,5 @@
-use Prim.Native.Nat.{ℕ, ◌-◌, ◌≤◌}
-use native.Mathlib.Omega.{arith}
-use mathlib.Core.Path.{◌≡◌, refl, subst}
-use borrow.Author.Rules.{rules}
+use Prim.Native.Nat.{◌-◌, ◌≤◌}
 use Rattle.judging.specs.Copies.{Copied}
-use Rattle.judging.proofs.copies.Laws.{moved_leaf, end_here, none, more, move_room, unmoved, moved}
 use Rattle.judging.proofs.copies.copy.Given as goal
 
 abbrev pub invariant-loop-i : goal.invariant-loop-i

@@ -1,5 +1,5 @@
 -- `judging::copies::copy_in` meets its contract.
-use Prim.Native.Nat.{ℕ, ◌-◌, ◌≤◌}
+use Prim.Native.Nat.{ℕ}
 use native.Mathlib.Omega.{arith}
 use mathlib.Core.Path.{◌≡◌, refl, subst}
 use Rattle.judging.specs.Copies.{Copied}

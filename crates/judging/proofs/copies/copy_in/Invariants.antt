@@ -1,8 +1,5 @@
-use Prim.Native.Nat.{ℕ, ◌-◌, ◌≤◌}
-use native.Mathlib.Omega.{arith}
-use mathlib.Core.Path.{◌≡◌, refl, subst}
+use Prim.Native.Nat.{◌-◌, ◌≤◌}
 use Rattle.judging.specs.Copies.{Copied}
-use Rattle.judging.proofs.copies.Laws.{none, more}
 use Rattle.judging.proofs.copies.copy_in.Given as goal
 
 abbrev pub invariant-loop-i : goal.invariant-loop-i

@@ -1,12 +1,8 @@
 -- `judging::copies::skip` meets its contract. The invariant: what is left, with the results that are due, ends where the type does.
-use Prim.Native.Nat.{◌-◌, ◌≤◌}
-use mathlib.Core.Logic.{⊎_elim}
 use native.Mathlib.Omega.{arith}
-use borrow.Author.Rules.{rules}
-use lib.ListN.{length}
 use Rattle.judging.specs.Copies.{Ends}
 use Rattle.judging.proofs.copies.Laws.{end_lock, end_leaf}
-use Rattle.judging.proofs.copies.Due.{Left, left_all, left_here, left_room, left_fun, left_ref, left_end, left_next}
+use Rattle.judging.proofs.copies.Due.{left_all, left_here, left_room, left_fun, left_ref, left_end, left_next}
 use Rattle.judging.proofs.copies.skip.Goals.{then-code-eq34, else-code-eq34}
 use Rattle.judging.proofs.copies.skip.Goals as goal
 

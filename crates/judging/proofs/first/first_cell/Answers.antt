@@ -4,7 +4,6 @@ use native.Mathlib.Omega.{arith}
 use lib.ListN.{length-set}
 use Rattle.judging.proofs.first.Kept.{facts}
 use Rattle.judging.proofs.first.Cell.{cell_room, cell_12, cell_10, cell_go}
-use borrow.Author.Rules.{rules}
 use Rattle.judging.proofs.first.first_cell.Goals as goal
 
 pub overflow_sub-left : goal.overflow_sub-left

@@ -1,6 +1,5 @@
 -- `judging::first::first_due` meets its contract.
 use Rattle.judging.proofs.first.Kept.{part_movable, facts, due_stop, due_first}
-use borrow.Author.Rules.{rules}
 use Rattle.judging.proofs.first.first_due.Goals as goal
 
 pub overflow_sub-left : goal.overflow_sub-left

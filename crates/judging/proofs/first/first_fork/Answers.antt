@@ -1,7 +1,6 @@
 -- `judging::first::first_fork` meets its contract.
 use Rattle.judging.proofs.first.Kept.{fork_stop, fork_first}
 use native.Mathlib.Omega.{arith}
-use borrow.Author.Rules.{rules}
 use Rattle.judging.proofs.first.first_fork.Goals as goal
 
 pub returns-then-need-ne0 : goal.returns-then-need-ne0

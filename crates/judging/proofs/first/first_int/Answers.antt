@@ -1,6 +1,5 @@
 -- `judging::first::first_int` meets its contract.
 use Rattle.judging.proofs.first.Kept.{facts, due_stop, int_first}
-use borrow.Author.Rules.{rules}
 use Rattle.judging.proofs.first.first_int.Goals as goal
 
 pub overflow_sub-left : goal.overflow_sub-left

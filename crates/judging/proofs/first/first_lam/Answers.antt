@@ -3,7 +3,6 @@ use mathlib.Core.Path.{refl}
 use native.Mathlib.Omega.{arith}
 use Rattle.judging.proofs.first.Kept.{facts}
 use Rattle.judging.proofs.first.Function.{lam_result, lam_room, res_room, lam_13, lam_10, lam_go}
-use borrow.Author.Rules.{rules}
 use Rattle.judging.proofs.first.first_lam.Goals as goal
 
 pub overflow_sub-p : goal.overflow_sub-p

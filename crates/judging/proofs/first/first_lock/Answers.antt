@@ -1,7 +1,6 @@
 -- `judging::first::first_lock` meets its contract.
 use Rattle.judging.proofs.first.Kept.{part_movable, facts}
 use Rattle.judging.proofs.first.NewLock.{lock_able, lock_15, lock_16, lock_first}
-use borrow.Author.Rules.{rules}
 use Rattle.judging.proofs.first.first_lock.Goals as goal
 
 pub overflow_sub-left : goal.overflow_sub-left

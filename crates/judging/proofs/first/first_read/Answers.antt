@@ -1,7 +1,6 @@
 -- `judging::first::first_read` meets its contract.
 use Rattle.judging.proofs.first.Kept.{facts}
 use Rattle.judging.proofs.first.Read.{content_movable, read_name, read_stop, read_go}
-use borrow.Author.Rules.{rules}
 use Rattle.judging.proofs.first.first_read.Goals as goal
 
 pub overflow_sub-left : goal.overflow_sub-left

@@ -3,7 +3,6 @@ use mathlib.Core.Path.{sym}
 use Rattle.paper.specs.Sets.{single}
 use Rattle.judging.proofs.SetBits.{less_xor}
 use Rattle.judging.proofs.Gone.{just_small}
-use borrow.Author.Rules.{rules}
 use Rattle.judging.proofs.numbers.less.Goals as goal
 
 pub returns : goal.returns

@@ -1,6 +1,5 @@
 -- `judging::numbers::power` meets its contract.
 use Rattle.judging.proofs.numbers.Laws.{shl_one}
-use borrow.Author.Rules.{rules}
 use Rattle.judging.proofs.numbers.power.Goals as goal
 
 pub returns : goal.returns

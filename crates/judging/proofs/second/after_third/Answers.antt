@@ -1,7 +1,6 @@
 -- `judging::second::after_third` meets its contract.
 use native.Mathlib.Omega.{arith}
 use Rattle.judging.proofs.second.Third.{facts, stated_there, stated_room, third_stop, third_go}
-use borrow.Author.Rules.{rules}
 use Rattle.judging.proofs.second.after_third.Goals as goal
 
 pub overflow_sub-left : goal.overflow_sub-left

@@ -1,6 +1,5 @@
 -- `judging::second::second_add` meets its contract.
 use Rattle.judging.proofs.second.Plain.{facts, add_stop, add_go}
-use borrow.Author.Rules.{rules}
 use Rattle.judging.proofs.second.second_add.Goals as goal
 
 pub overflow_sub-left : goal.overflow_sub-left

@@ -2,7 +2,6 @@
 use native.Mathlib.Omega.{arith}
 use Rattle.judging.proofs.second.Apply.{result_movable, arg_there, set_there, app_stop, app_go}
 use Rattle.judging.proofs.second.Plain.{facts}
-use borrow.Author.Rules.{rules}
 use Rattle.judging.proofs.second.second_app.Goals as goal
 
 pub overflow_sub-left : goal.overflow_sub-left

@@ -2,7 +2,6 @@
 use native.Mathlib.Omega.{arith}
 use Rattle.judging.proofs.second.Plain.{facts}
 use Rattle.judging.proofs.second.Cond.{cond_stop, cond_go}
-use borrow.Author.Rules.{rules}
 use Rattle.judging.proofs.second.second_cond.Goals as goal
 
 pub overflow_sub-left : goal.overflow_sub-left

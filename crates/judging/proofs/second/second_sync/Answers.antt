@@ -1,6 +1,5 @@
 -- `judging::second::second_sync` meets its contract.
 use Rattle.judging.proofs.second.Plain.{part_movable, facts, sync_name, sync_second}
-use borrow.Author.Rules.{rules}
 use Rattle.judging.proofs.second.second_sync.Goals as goal
 
 pub overflow_sub-left : goal.overflow_sub-left

@@ -1,7 +1,6 @@
 -- `judging::second::second_write` meets its contract.
 use Rattle.judging.proofs.second.Plain.{facts}
 use Rattle.judging.proofs.second.Write.{write_name, write_stop, write_go}
-use borrow.Author.Rules.{rules}
 use Rattle.judging.proofs.second.second_write.Goals as goal
 
 pub overflow_sub-left : goal.overflow_sub-left

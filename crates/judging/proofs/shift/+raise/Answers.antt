@@ -1,7 +1,7 @@
 -- `judging::shift::raise` meets its contract.
 use Rattle.judging.proofs.shift.Laws.{less, past, able_here, able_lock, able_ref, able_inner, able_arg, able_set, able_result, leaf, name, inner, whole}
 use lib.ListN.{length, length-set}
-use Prim.Native.Nat.{◌<◌, ℕ, ◌-◌, ◌+◌}
+use Prim.Native.Nat.{◌+◌}
 use borrow.Author.Rules.{rules}
 use native.Mathlib.Omega.{arith}
 use mathlib.Core.Path.{refl, ◌∙◌}

@@ -1,6 +1,5 @@
 -- `judging::shift::lower_set` meets its contract.
 use Rattle.judging.proofs.shift.Lowering.{even_odd}
-use borrow.Author.Rules.{rules}
 use Rattle.judging.proofs.shift.lower_set.Goals as goal
 
 pub returns : goal.returns

@@ -1,7 +1,6 @@
 -- `judging::shift::put4` meets its contract.
 use lib.ListN.{length-set}
 use native.Mathlib.Omega.{arith}
-use borrow.Author.Rules.{rules}
 use Rattle.judging.proofs.shift.put4.Goals as goal
 
 pub bounds-s-at-2 : goal.bounds-s-at-2

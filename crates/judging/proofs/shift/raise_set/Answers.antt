@@ -1,6 +1,5 @@
 -- `judging::shift::raise_set` meets its contract.
 use native.Mathlib.Omega.{arith}
-use borrow.Author.Rules.{rules}
 use Rattle.judging.proofs.shift.raise_set.Goals as goal
 
 pub shifted-requires : goal.shifted-requires
