@@ -1,4 +1,4 @@
--- `reading::first::lead_function` meets its contract: the two fields are read in turn, and the last part is told as the whole (`function-with`).
+-- `reading::first::lead_function` meets its contract: the two fields are read in turn, and the last part is told as the whole (`function_with`).
 use mathlib.Core.Path.{refl}
 use native.Mathlib.Omega.{arith}
 use Rattle.types.proofs.stated.Laws.{on_refused, on_next}
