@@ -1,5 +1,5 @@
 -- `lister::next` meets its contract: each return is one case of the definition.
-use Rattle.lister.specs.Listing.{at_end, below_codes, above_codes, code_told}
+use Rattle.lister.proofs.Listing.{at_end, below_codes, above_codes, code_told}
 use Rattle.lister.proofs.next.Goals as goal
 
 pub returns-then-image-at : goal.returns-then-image-at

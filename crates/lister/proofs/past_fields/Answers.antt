@@ -1,6 +1,6 @@
 -- `lister::past_fields` meets its contract: each return is one row of the table.
 use Rattle.lister.specs.Passing.{both, first_wrong, no_fields}
-use Rattle.lister.specs.Listing.{of_code, fields_02, fields_03, fields_04, fields_06, fields_0f, fields_none}
+use Rattle.lister.proofs.Listing.{of_code, fields_02, fields_03, fields_04, fields_06, fields_0f, fields_none}
 use Rattle.lister.proofs.past_fields.Goals as goal
 
 pub returns-then-code-eq2 : goal.returns-then-code-eq2
