@@ -25,15 +25,6 @@ returns-then-d-lt48 c =
     let loop-test = c.loop-i-test in
     sym (sym loop.invariant.1 ∙ number_off n s i loop-test.true (rw (lt-leb 48 (get_or s i 0) c.if-d-lt48.true)))
 
-pub returns-then-d-gt57 : goal.returns-then-d-gt57
-returns-then-d-gt57 c =
-    let n = c.loop-i.n in
-    let s = c.args.s.now in
-    let i = c.loop-i.i in
-    let loop = c.loop-i in
-    let loop-test = c.loop-i-test in
-    sym (sym loop.invariant.1 ∙ number_off n s i loop-test.true (rw (le-leb 48 (get_or s i 0) c.if-d-lt48.false, lt-leb (get_or s i 0) 57 c.if-d-gt57.true)))
-
 pub returns-then-n-gt1844674407370955161 : goal.returns-then-n-gt1844674407370955161
 returns-then-n-gt1844674407370955161 c =
     let n = c.loop-i.n in
@@ -42,7 +33,7 @@ returns-then-n-gt1844674407370955161 c =
     let loop = c.loop-i in
     let loop-test = c.loop-i-test in
     let if2 = c.if-d-lt48 in
-    sym (sym loop.invariant.1 ∙ number_off n s i loop-test.true (rw (le-leb 48 (get_or s i 0) if2.false, le-leb (get_or s i 0) 57 c.if-d-gt57.false, lt-leb (n * 10 + (get_or s i 0 - 48)) 18446744073709551615 (omega arith))))
+    sym (sym loop.invariant.1 ∙ number_off n s i loop-test.true (rw (le-leb 48 (get_or s i 0) if2.false, le-leb (get_or s i 0) 57 (omega arith), lt-leb (n * 10 + (get_or s i 0 - 48)) 18446744073709551615 (omega arith))))
 
 pub returns-then-n-d : goal.returns-then-n-d
 returns-then-n-d c =
@@ -52,8 +43,7 @@ returns-then-n-d c =
     let loop = c.loop-i in
     let loop-test = c.loop-i-test in
     let if2 = c.if-d-lt48 in
-    let if3 = c.if-d-gt57 in
-    sym (sym loop.invariant.1 ∙ number_off n s i loop-test.true (rw (le-leb 48 (get_or s i 0) if2.false, le-leb (get_or s i 0) 57 if3.false, lt-leb (n * 10 + (get_or s i 0 - 48)) 18446744073709551615 (omega arith))))
+    sym (sym loop.invariant.1 ∙ number_off n s i loop-test.true (rw (le-leb 48 (get_or s i 0) if2.false, le-leb (get_or s i 0) 57 (omega arith), lt-leb (n * 10 + (get_or s i 0 - 48)) 18446744073709551615 (omega arith))))
 
 pub loop-i-preserved : goal.loop-i-preserved
 loop-i-preserved c =
@@ -63,7 +53,7 @@ loop-i-preserved c =
     let loop-test = c.loop-i-test in
     let if2 = c.if-d-lt48 in
     let loop = c.loop-i in
-    (omega arith, sym (number_on n s i loop-test.true if2.false c.if-d-gt57.false (omega arith)) ∙ loop.invariant.1)
+    (omega arith, sym (number_on n s i loop-test.true if2.false (omega arith) (omega arith)) ∙ loop.invariant.1)
 
 pub returns : goal.returns
 returns c =
