@@ -6,7 +6,8 @@ use Rattle.paper.specs.Base.{at}
 use Rattle.paper.specs.Reading.{Read, got, wrong, code_due, exp_code}
 use Rattle.paper.specs.Lister as paper
 use Rattle.paper.specs.Lister.{Field, some_bytes, a_type, exp_fields, past, list}
-use Rattle.lister.specs.Means.{Lists, lists, told}
+use Rattle.paper.specs.Calls.{list_call}
+use Rattle.lister.specs.Means.{Lists, told, stands}
 use Rattle.lister.specs.Passing.{Passes, meant, passed, code_inside, no_code}
 use Rattle.lister.specs.declared.Past as P
 use Rattle.lister.specs.declared.Past.TheVariants.{To, Refused}
@@ -44,6 +45,16 @@ pub of_code : {s : List ℕ} {gs : List Field} {i : ℕ} {r : P.Past} (c : ℕ) 
 of_code c h a = rw h a
 
 -- ---- the item
+
+-- the place follows from what is told
+pub lists : {image : List ℕ} {i : ℕ} (r : Item) → told r ≡ paper.list 1 image i → Lists image i r
+unfolding list_call
+lists {image} {i} r h = record { says = h; place = stood i r ∙ (rw h) }
+  where
+    stood : (i : ℕ) (r : Item) → stands i r ≡ paper.reached i (told r)
+    stood i (I.Code c p j) = refl
+    stood i I.End = refl
+    stood i (I.Refused n p) = refl
 
 -- what the lister tells of a code c at place i, by the answer to its fields
 abbrev pub item_of : ℕ → ℕ → P.Past → Item
