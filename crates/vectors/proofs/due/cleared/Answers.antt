@@ -1,6 +1,5 @@
 use native.Mathlib.Omega.{arith}
 use Rattle.vectors.specs.DueLaws.{not_so, fails, front_long, cleared_rest, cleared_zero}
-use borrow.Author.Rules.{rules}
 use Rattle.vectors.proofs.due.cleared.Goals as goal
 
 pub returns-then-buffer-size : goal.returns-then-buffer-size

@@ -1,9 +1,6 @@
 -- The first i bytes are b.
-use Prim.Native.Nat.{ℕ, ◌-◌, ◌≤◌, ◌<◌}
 use native.Mathlib.Omega.{arith}
-use mathlib.Core.Path.{◌≡◌}
 use borrow.Author.Count.{below_more}
-use lib.ListN.{length, get_or}
 use Rattle.vectors.specs.DueLaws.{so, not_so}
 use borrow.Author.Rules.{rules}
 use Rattle.vectors.proofs.due.filled.Goals as goal

@@ -1,5 +1,4 @@
 use Rattle.vectors.specs.DueLaws.{fails, load_rest}
-use borrow.Author.Rules.{rules}
 use Rattle.vectors.proofs.due.load_as_due.Goals as goal
 
 pub returns-then-equal : goal.returns-then-equal

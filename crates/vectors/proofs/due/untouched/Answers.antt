@@ -1,5 +1,4 @@
 use Rattle.vectors.specs.DueLaws.{fails, untouched_rest}
-use borrow.Author.Rules.{rules}
 use Rattle.vectors.proofs.due.untouched.Goals as goal
 
 pub returns-then-filled : goal.returns-then-filled

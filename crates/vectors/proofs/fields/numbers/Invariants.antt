@@ -1,9 +1,6 @@
-use mathlib.Core.Path.{◌≡◌, ap}
+use mathlib.Core.Path.{◌≡◌}
 use Prim.Native.Nat.{◌-◌}
-use native.Mathlib.Omega.{arith}
 use lib.ListN.{length}
-use Rattle.lines.specs.CutLaws.{before_short}
-use borrow.Author.Rules.{rules}
 use Rattle.vectors.proofs.fields.numbers.Given as goal
 
 abbrev pub invariant-loop-i : goal.invariant-loop-i

@@ -1,6 +1,5 @@
 use mathlib.Core.Path.{sym}
 use lib.Seq.{length-take-le}
-use borrow.Author.Rules.{rules}
 use Rattle.vectors.proofs.sparse.put.Goals as goal
 
 pub slice_bounds-put_all-end-2 : goal.slice_bounds-put_all-end-2

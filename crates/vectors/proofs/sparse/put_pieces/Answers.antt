@@ -1,10 +1,8 @@
 -- Each piece is passed with its end.
-use mathlib.Core.Path.{◌≡◌, ap}
-use Prim.Native.Nat.{◌-◌}
+use mathlib.Core.Path.{ap}
 use native.Mathlib.Omega.{arith}
 use lib.ListN.{length}
 use Rattle.lines.specs.CutLaws.{before_short}
-use borrow.Author.Rules.{rules}
 use Rattle.vectors.proofs.sparse.put_pieces.Goals as goal
 
 pub overflow_add-at : goal.overflow_add-at

@@ -1,9 +1,6 @@
-use mathlib.Core.Path.{◌≡◌, ap}
+use mathlib.Core.Path.{◌≡◌}
 use Prim.Native.Nat.{◌-◌}
-use native.Mathlib.Omega.{arith}
 use lib.ListN.{length}
-use Rattle.lines.specs.CutLaws.{before_short}
-use borrow.Author.Rules.{rules}
 use Rattle.vectors.proofs.sparse.put_pieces.Given as goal
 
 abbrev pub invariant-loop-at : goal.invariant-loop-at
