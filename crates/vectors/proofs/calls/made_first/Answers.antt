@@ -1,7 +1,6 @@
 use mathlib.Core.Path.{sym}
 use native.Mathlib.Omega.{arith}
 use lib.Seq.{length-take-le}
-use borrow.Author.Rules.{rules}
 use Rattle.vectors.proofs.calls.made_first.Goals as goal
 
 pub slice_bounds-made-end-then-lent-state : goal.slice_bounds-made-end-then-lent-state

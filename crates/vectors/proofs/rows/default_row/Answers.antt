@@ -1,7 +1,6 @@
 use mathlib.Core.Path.{ap, sym, ◌∙◌}
 use Rattle.paper.specs.Cases.{told_default}
 use Rattle.vectors.specs.Rows.{default_row}
-use borrow.Author.Rules.{rules}
 use Rattle.vectors.proofs.rows.default_row.Goals as goal
 
 pub returns-in-Ran : goal.returns-in-Ran

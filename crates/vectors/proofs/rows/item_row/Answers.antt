@@ -1,6 +1,5 @@
 use mathlib.Core.Path.{ap, sym, ◌∙◌}
 use Rattle.vectors.specs.Rows.{item_row}
-use borrow.Author.Rules.{rules}
 use Rattle.vectors.proofs.rows.item_row.Goals as goal
 
 pub returns-in-Code : goal.returns-in-Code

@@ -1,7 +1,6 @@
 use mathlib.Core.Path.{ap, sym, ◌∙◌}
 use Rattle.paper.specs.Cases.{told_race}
 use Rattle.vectors.specs.Rows.{race_row}
-use borrow.Author.Rules.{rules}
 use Rattle.vectors.proofs.rows.race_row.Goals as goal
 
 pub returns-in-Between : goal.returns-in-Between

@@ -1,7 +1,6 @@
 use mathlib.Core.Path.{ap, sym, ◌∙◌}
 use Rattle.paper.specs.Cases.{told}
 use Rattle.vectors.specs.Rows.{step_row}
-use borrow.Author.Rules.{rules}
 use Rattle.vectors.proofs.rows.step_row.Goals as goal
 
 pub returns-in-Made : goal.returns-in-Made

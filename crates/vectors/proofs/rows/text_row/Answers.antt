@@ -1,6 +1,5 @@
 use mathlib.Core.Path.{ap, sym, ◌∙◌}
 use Rattle.vectors.specs.Rows.{text_row}
-use borrow.Author.Rules.{rules}
 use Rattle.vectors.proofs.rows.text_row.Goals as goal
 
 pub returns-in-Written : goal.returns-in-Written
