@@ -4,7 +4,7 @@ use Rattle.std.proofs.Common.{sym, ap, ◌∙◌, ltb-true, ltb-false}
 use Rattle.std.proofs.Math.Option.{Option, none, some}
 use Rattle.paper.specs.States.{State, sixteen, total}
 use Rattle.paper.specs.StateOf.{state_of}
-use Rattle.paper.specs.Runs.{Race, race}
+use Rattle.paper.specs.Runs.{Race}
 use Rattle.paper.specs.Calls.{RaceCall, race_call}
 use Rattle.laws.specs.Tests.{none-some}
 use Rattle.laws.specs.Cards.{sixteen_fits}

@@ -1,5 +1,5 @@
 -- The paper's judge once more, for the proofs of the code: of expressions with the places of their codes (`reading`, `Placed`), where the paper
--- works the places out by sizes. `proofs/Agree` shows that the two give the same (`judge-is`); the public contract cites the paper's.
+-- works the places out by sizes. `proofs/Agree` shows that the two give the same (`judge_is`); the public contract cites the paper's.
 use Rattle.std.specs.Prelude.{ℕ, Bool, true, false, not, List, ◌∷◌, map, leb, eqb, get_or}
 use Rattle.paper.specs.Sets.{single, has, union, less, within, lowered}
 use Rattle.paper.specs.Types.{Ty, unit, int, lock, ref, fun, ty_size, raise, lower, mentions, subtype}

@@ -1,5 +1,6 @@
 // The judge.
 #![tactic(auto)]
+
 mod numbers; // numbers.rt: four bytes as a number, powers of two and the set of one lock
 mod shift; // shift.rt: raising and lowering the names of a type
 mod copies; // copies.rt: copying a type, and passing over one

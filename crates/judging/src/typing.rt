@@ -14,7 +14,7 @@ use crate::second::{after_third, second_add, second_app, second_cond, second_syn
 use crate::work::{Answer, slot_of};
 
 // The body is under the argument.
-#[cycle(add_apply_conditional_fork_function_judge_let_in_new_cell_new_lock_read_section_then_write)]
+#[cycle(rules)]
 fn function(img: &[u8], at: usize, work: &mut [u8], vars: u8, locks: u8, left: u8) -> Answer
     requires { Ready img.now work.old at vars locks left × (get_or img.now at 0 ≡ 4) }
     ensures { Finds img.now work.old work.new at vars locks left result }
@@ -27,7 +27,7 @@ fn function(img: &[u8], at: usize, work: &mut [u8], vars: u8, locks: u8, left: u
 }
 
 // The first part is a Function, whose code is 36.
-#[cycle(add_apply_conditional_fork_function_judge_let_in_new_cell_new_lock_read_section_then_write)]
+#[cycle(rules)]
 fn apply(img: &[u8], at: usize, work: &mut [u8], vars: u8, locks: u8, left: u8) -> Answer
     requires { Ready img.now work.old at vars locks left × (get_or img.now at 0 ≡ 5) }
     ensures { Finds img.now work.old work.new at vars locks left result }
@@ -49,7 +49,7 @@ fn apply(img: &[u8], at: usize, work: &mut [u8], vars: u8, locks: u8, left: u8) 
 }
 
 // The content stands behind the lock name and the stated type.
-#[cycle(add_apply_conditional_fork_function_judge_let_in_new_cell_new_lock_read_section_then_write)]
+#[cycle(rules)]
 fn new_cell(img: &[u8], at: usize, work: &mut [u8], vars: u8, locks: u8, left: u8) -> Answer
     requires { Ready img.now work.old at vars locks left × (get_or img.now at 0 ≡ 6) }
     ensures { Finds img.now work.old work.new at vars locks left result }
@@ -62,7 +62,7 @@ fn new_cell(img: &[u8], at: usize, work: &mut [u8], vars: u8, locks: u8, left: u
 }
 
 // Nothing is kept of the Ref but its content.
-#[cycle(add_apply_conditional_fork_function_judge_let_in_new_cell_new_lock_read_section_then_write)]
+#[cycle(rules)]
 fn read(img: &[u8], at: usize, work: &mut [u8], vars: u8, locks: u8, left: u8) -> Answer
     requires { Ready img.now work.old at vars locks left × (get_or img.now at 0 ≡ 7) }
     ensures { Finds img.now work.old work.new at vars locks left result }
@@ -75,7 +75,7 @@ fn read(img: &[u8], at: usize, work: &mut [u8], vars: u8, locks: u8, left: u8) -
 }
 
 // The first part is a Ref, whose code is 35.
-#[cycle(add_apply_conditional_fork_function_judge_let_in_new_cell_new_lock_read_section_then_write)]
+#[cycle(rules)]
 fn write(img: &[u8], at: usize, work: &mut [u8], vars: u8, locks: u8, left: u8) -> Answer
     requires { Ready img.now work.old at vars locks left × (get_or img.now at 0 ≡ 8) }
     ensures { Finds img.now work.old work.new at vars locks left result }
@@ -97,7 +97,7 @@ fn write(img: &[u8], at: usize, work: &mut [u8], vars: u8, locks: u8, left: u8) 
 }
 
 // The type of the part is of no use: a fork gives Unit.
-#[cycle(add_apply_conditional_fork_function_judge_let_in_new_cell_new_lock_read_section_then_write)]
+#[cycle(rules)]
 fn fork(img: &[u8], at: usize, work: &mut [u8], vars: u8, locks: u8, left: u8) -> Answer
     requires { Ready img.now work.old at vars locks left × (get_or img.now at 0 ≡ 9) }
     ensures { Finds img.now work.old work.new at vars locks left result }
@@ -110,7 +110,7 @@ fn fork(img: &[u8], at: usize, work: &mut [u8], vars: u8, locks: u8, left: u8) -
 }
 
 // The body is under the new lock and under the variable that is it.
-#[cycle(add_apply_conditional_fork_function_judge_let_in_new_cell_new_lock_read_section_then_write)]
+#[cycle(rules)]
 fn new_lock(img: &[u8], at: usize, work: &mut [u8], vars: u8, locks: u8, left: u8) -> Answer
     requires { Ready img.now work.old at vars locks left × (get_or img.now at 0 ≡ 10) }
     ensures { Finds img.now work.old work.new at vars locks left result }
@@ -124,7 +124,7 @@ fn new_lock(img: &[u8], at: usize, work: &mut [u8], vars: u8, locks: u8, left: u
 }
 
 // The first part is a Lock, whose code is 34.
-#[cycle(add_apply_conditional_fork_function_judge_let_in_new_cell_new_lock_read_section_then_write)]
+#[cycle(rules)]
 fn section(img: &[u8], at: usize, work: &mut [u8], vars: u8, locks: u8, left: u8) -> Answer
     requires { Ready img.now work.old at vars locks left × (get_or img.now at 0 ≡ 11) }
     ensures { Finds img.now work.old work.new at vars locks left result }
@@ -146,7 +146,7 @@ fn section(img: &[u8], at: usize, work: &mut [u8], vars: u8, locks: u8, left: u8
 }
 
 // The second part is under the variable that has the first one's type.
-#[cycle(add_apply_conditional_fork_function_judge_let_in_new_cell_new_lock_read_section_then_write)]
+#[cycle(rules)]
 fn let_in(img: &[u8], at: usize, work: &mut [u8], vars: u8, locks: u8, left: u8) -> Answer
     requires { Ready img.now work.old at vars locks left × (get_or img.now at 0 ≡ 12) }
     ensures { Finds img.now work.old work.new at vars locks left result }
@@ -167,7 +167,7 @@ fn let_in(img: &[u8], at: usize, work: &mut [u8], vars: u8, locks: u8, left: u8)
 }
 
 // Of the first part only the need is left.
-#[cycle(add_apply_conditional_fork_function_judge_let_in_new_cell_new_lock_read_section_then_write)]
+#[cycle(rules)]
 fn then(img: &[u8], at: usize, work: &mut [u8], vars: u8, locks: u8, left: u8) -> Answer
     requires { Ready img.now work.old at vars locks left × (get_or img.now at 0 ≡ 13) }
     ensures { Finds img.now work.old work.new at vars locks left result }
@@ -187,7 +187,7 @@ fn then(img: &[u8], at: usize, work: &mut [u8], vars: u8, locks: u8, left: u8) -
 }
 
 // That the first part is an Int is told before the second is judged.
-#[cycle(add_apply_conditional_fork_function_judge_let_in_new_cell_new_lock_read_section_then_write)]
+#[cycle(rules)]
 fn add(img: &[u8], at: usize, work: &mut [u8], vars: u8, locks: u8, left: u8) -> Answer
     requires { Ready img.now work.old at vars locks left × (get_or img.now at 0 ≡ 14) }
     ensures { Finds img.now work.old work.new at vars locks left result }
@@ -209,7 +209,7 @@ fn add(img: &[u8], at: usize, work: &mut [u8], vars: u8, locks: u8, left: u8) ->
 }
 
 // The number and the two branches stand behind the stated type, which both branches are held against.
-#[cycle(add_apply_conditional_fork_function_judge_let_in_new_cell_new_lock_read_section_then_write)]
+#[cycle(rules)]
 fn conditional(img: &[u8], at: usize, work: &mut [u8], vars: u8, locks: u8, left: u8) -> Answer
     requires { Ready img.now work.old at vars locks left × (get_or img.now at 0 ≡ 15) }
     ensures { Finds img.now work.old work.new at vars locks left result }
@@ -249,7 +249,7 @@ fn conditional(img: &[u8], at: usize, work: &mut [u8], vars: u8, locks: u8, left
 }
 
 // The expression at `at`, under `vars` variables and `locks` locks, with `left` of the nesting left.
-#[cycle(add_apply_conditional_fork_function_judge_let_in_new_cell_new_lock_read_section_then_write)]
+#[cycle(rules)]
 pub(crate) fn judge(img: &[u8], at: usize, work: &mut [u8], vars: u8, locks: u8, left: u8) -> Answer
     requires { Ready img.now work.old at vars locks left }
     ensures { Finds img.now work.old work.new at vars locks left result }

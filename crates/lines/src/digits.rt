@@ -10,6 +10,7 @@ pub enum Number {
 }
 
 // A number of 64 bits; leading zeros are taken.
+#[tactic(auto, using(crate::proofs::digits::Past::past_digits))]
 pub fn decimal(s: &[u8]) -> Number
     ensures { result ≡ number_of s.now }
 {

@@ -1,4 +1,3 @@
 pub mod Means
 pub mod Passing
 pub mod Stated
-pub mod Listing

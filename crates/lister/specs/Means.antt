@@ -51,16 +51,6 @@ told_one (Refused n p) (Refused m q) h = cc
 pub lists_one : {image : List ℕ} {i : ℕ} {a b : Item} → Lists image i a → Lists image i b → a ≡ b
 lists_one {a = a} {b = b} x y = told_one a b (x.says ∙ sym y.says)
 
--- the place follows from what is told
-pub lists : {image : List ℕ} {i : ℕ} (r : Item) → told r ≡ paper.list 1 image i → Lists image i r
-unfolding list_call
-lists {image} {i} r h = record { says = h; place = stood i r ∙ (rw h) }
-  where
-    stood : (i : ℕ) (r : Item) → stands i r ≡ paper.reached i (told r)
-    stood i (Code c p j) = refl
-    stood i End = refl
-    stood i (Refused n p) = refl
-
 pub advances_one : {before : Reader} {a b : Item} {x y : Reader} → Advances before a x → Advances before b y → (a ≡ b) × (x ≡ y)
 advances_one {before} x y =
     let e = lists_one x.lists y.lists in

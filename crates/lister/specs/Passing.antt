@@ -72,7 +72,11 @@ module _ (s : List ℕ) where
 module _ {s : List ℕ} where
   pub ends_now : (i : ℕ) → Ends s [] i (got tt i)
   unfolding past
-  ends_now i = record { says = λ turns h. elim turns [ zero ↦ refl | suc t ↦ refl ] }
+  ends_now i = record { says = go }
+    where
+      go : (turns : ℕ) → length s ≤ turns + i → past 1 turns s [] i ≡ got tt i
+      go zero k = refl
+      go (suc t) k = refl
 
   module _ {fs : List Field} {x : Read (Unit {0})} where
     pub ends_bytes : (n i : ℕ) → 0 < n → i + n ≤ length s → Ends s fs (i + n) x → Ends s (some_bytes n ∷ fs) i x
@@ -94,11 +98,19 @@ module _ {s : List ℕ} where
   module _ (fs : List Field) where
     pub cut_bytes : (n i : ℕ) → 0 < n → length s < i + n → Ends s (some_bytes n ∷ fs) i (wrong cut_image (length s))
     unfolding past
-    cut_bytes n i pos h = record { says = λ turns k. elim turns [ zero ↦ refl | suc t ↦ rw (field_cut s n i h, past) ] }
+    cut_bytes n i pos h = record { says = go }
+      where
+        go : (turns : ℕ) → length s ≤ turns + i → past 1 turns s (some_bytes n ∷ fs) i ≡ wrong cut_image (length s)
+        go zero k = refl
+        go (suc t) k = rw (field_cut s n i h, past)
 
     pub cut_type : (i : ℕ) → length s ≤ i → Ends s (a_type ∷ fs) i (wrong cut_image (length s))
     unfolding past
-    cut_type i h = record { says = λ turns k. elim turns [ zero ↦ refl | suc t ↦ rw (code_cut s (type_code 1) i h, past) ] }
+    cut_type i h = record { says = go }
+      where
+        go : (turns : ℕ) → length s ≤ turns + i → past 1 turns s (a_type ∷ fs) i ≡ wrong cut_image (length s)
+        go zero k = refl
+        go (suc t) k = rw (code_cut s (type_code 1) i h, past)
 
     pub no_type : (i : ℕ) → i < length s → type_code 1 (at s i) ≡ false → Ends s (a_type ∷ fs) i (wrong no_such_code i)
     unfolding past

@@ -1,6 +1,7 @@
 // The lister (document 01): the next expression code of an image, passing over its own fields and stated types. It tells only that no such code
 // is there and that the end cuts something, so it tests no header, depth, size or name.
 #![tactic(auto)]
+
 ghost use Rattle.std.specs.Prelude.{◌≡◌, [], ◌∷◌, ◌<◌};
 ghost use Rattle.paper.specs.Lister.{a_type, some_bytes, exp_fields};
 ghost use Rattle.lister.specs.Means.{Lists, stands, reader_at, Advances};

@@ -2,7 +2,6 @@
 use Rattle.std.specs.Prelude.{◌≡◌, ℕ, List, length, ◌≢◌, slice_index, slice_index_or}
 use Rattle.std.proofs.Math.Path.{refl}
 use Rattle.std.proofs.Common.{sym, ◌∙◌}
-use Rattle.std.proofs.Math.Option.{some}
 use Rattle.paper.specs.Terms.{Term, term_bytes}
 use Rattle.slots.specs.Walk.{skip_of}
 use Rattle.slots.specs.Coded.{Coded, coded_by, is_app, is_cell, is_read, is_write}

@@ -104,12 +104,14 @@ module _ {card : Card} {before : List ℕ} {limit : ℕ} where
           go : (o : Option Made) → lowest card S ≡ o → Lowest card state after false o → DefaultRuns card before limit after (Ran steps)
           go none e (none_can q) =
               subst (λ s. DefaultRuns card before limit s (Ran steps)) (sym q) (stops (ap (λ n. default card n steps S) more ∙ no_step card _ steps S e))
+          go (some m) e x = elim x [ ]
 
       pub going_on : {after : List ℕ} {r : Bool} → StepsLowest card state after r → r ≡ true → length after ≡ length state → Going card before limit after (steps + 1)
       unfolding after_default
       going_on {after} x b long = go (lowest card S) refl (rw b at (x.does g.held))
         where
           go : (o : Option Made) → lowest card S ≡ o → Lowest card state after true o → Going card before limit after (steps + 1)
+          go none e x = elim x [ ]
           go (some m) e (one_can q) =
               let w = g.held in
               let T = m.after in

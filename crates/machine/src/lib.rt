@@ -2,6 +2,7 @@
 // changes in the buffer; and the two runs of steps. Every contract below the step is about the terms that stand in the bytes; the step's own, and those
 // of the runs, are the paper's calls.
 #![tactic(auto)]
+
 mod act; // act.rt: what a step can be
 mod kinds; // kinds.rt: the kinds of step, on the bytes of the part that makes it
 mod dispatch; // dispatch.rt: from the code to the kind

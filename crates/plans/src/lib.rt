@@ -1,3 +1,4 @@
 // The state buffer byte by byte: what stands where, reading it, changing it. What a store makes of a state is in specs/.
 #![tactic(auto)]
+
 pub mod store; // store.rt: bytes, lengths and slots of a buffer

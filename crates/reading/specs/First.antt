@@ -1,6 +1,6 @@
 -- The paper's reader of expressions once more, for the proofs of the code here and of the code that judges: by the code that stands at a place,
 -- with a clause for each, and with the places kept (`Placed`). `proofs/first/Agree` shows that the paper's `read_exp` refuses alike or reads the
--- same expression (`exp-alike`); contracts cite the paper's.
+-- same expression (`exp_alike`); contracts cite the paper's.
 use Rattle.std.specs.Prelude.{ℕ, zero, suc, ◌+◌, List, length, get_or, ltb, leb, eqb}
 use Rattle.paper.specs.Base.{word32}
 use Rattle.paper.specs.Reading.{Read, got, wrong}

@@ -1,5 +1,5 @@
 -- What passes is closed: bytes that the pass for closed expressions accepts are one term's, and the term is closed.
-use Rattle.std.specs.Prelude.{◌≡◌, Bool, cond, ◌&&◌, ltb, length, get_or}
+use Rattle.std.specs.Prelude.{◌≡◌, Bool, ◌&&◌, ltb, length, get_or}
 use Rattle.std.proofs.Math.Path.{refl, sym, ap}
 use Rattle.std.proofs.Common.{◌∙◌, subst, add-zero, add-one, length-append, lt-ltb}
 use Rattle.std.proofs.Math.Bool.{true}

@@ -5,6 +5,7 @@
 // No function calls itself: an expression of a thread can be nested 2,048 deep. A pass that has to know how many binders are around a
 // variable borrows a stack, one byte for each byte of the slot, so the lender's stack is the limit and no card's number stands here.
 #![tactic(auto)]
+
 pub mod codes; // codes.rt: what each code has
 pub mod walk; // walk.rt: passing over an expression
 mod stack; // stack.rt: what is open around an expression

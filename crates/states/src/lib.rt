@@ -1,5 +1,6 @@
 // Is it a state, on the bytes of the lent buffer; and the race finder over it (document 01, "The running state"). Both only read.
 #![tactic(auto)]
+
 mod rows; // rows.rt: the used slots of threads and cells
 mod plan; // plan.rt: the header, the unused bytes, the whole plan
 pub mod races; // races.rt: the race finder

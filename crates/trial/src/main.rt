@@ -1,19 +1,18 @@
 // The trial program: an image and a schedule on standard input, the trial's text on standard output. An image over 4,096 bytes is refused with 2
 // whatever follows it, and of a schedule 8,192 bytes count: so 12,288 bytes are read, and what follows them changes nothing (trial_texts/Enough).
 #![tactic(auto)]
-use libc::{STDIN_FILENO, STDOUT_FILENO};
+
+use std::io;
 use texts::entry::Text;
 
-fn main() {
+fn main(rt: HostRuntime) -> io::Result<()> {
     let mut input = [0u8; 12288];
-    let n = io::read_full(STDIN_FILENO, &mut input);
+    let n = intake::fill(&mut rt.stdin(), &mut input)?;
     let mut state = [0u8; 49408];
     let mut work = [0u8; 40960];
     let mut text = [0u8; 74262];
     match trial_texts::trial::trial_text(&input[..n], &mut state, &mut work, &mut text) {
-        Text::Written(end) => {
-            io::write_all(STDOUT_FILENO, &text[..end]);
-        }
-        Text::ShortBuffer => {}
+        Text::Written(end) => rt.write_all(&text[..end]),
+        Text::ShortBuffer => Ok(()),
     }
 }

@@ -73,7 +73,7 @@ pub(crate) fn as_due(
     ensures { Exactly result (AsDue verdict due types.now expected.now work.now) }
 {
     if equal(verdict, due) {
-        if check::same(types, expected) {
+        if types == expected {
             return cleared(work, WORK_BYTES);
         }
     }

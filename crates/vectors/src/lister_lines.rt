@@ -31,13 +31,13 @@ fn read_refusal(fields: &[u8], at: usize) -> Said {
 
 fn read_item(fields: &[u8], at: usize) -> Said {
     let word = field(fields);
-    if check::same(word, b"code") {
+    if word == b"code" {
         return read_code(rest(fields), at);
     }
-    if check::same(word, b"refuse") {
+    if word == b"refuse" {
         return read_refusal(rest(fields), at);
     }
-    if check::same(word, b"end") {
+    if word == b"end" {
         return Said::Due(at, rows::row_of(0, 0, 0, 0, 0));
     }
     Said::Nothing

@@ -18,9 +18,9 @@ mod sparse; // sparse.rt: a state as a field
 mod rows; // rows.rt: an answer as the numbers of a line, and its comparison
 mod reports; // reports.rt: what is printed, and the counts
 
-use libc::STDIN_FILENO;
 use lines::cut::{BLANK, LINE_END, before};
 use reports::Outcome;
+use std::io;
 
 // The kinds in the order in which they are counted; 9 is no kind.
 fn kind_of(line: &[u8]) -> usize {
@@ -57,37 +57,38 @@ fn run(kind: usize, line: &[u8]) -> Outcome {
     }
 }
 
-fn one(line: &[u8], number: usize, counts: &mut [usize]) {
+fn one(rt: &impl Print, line: &[u8], number: usize, counts: &mut [usize]) -> io::Result<()> {
     let kind = kind_of(line);
     let outcome = run(kind, line);
-    reports::vector(kind, number, outcome);
+    reports::vector(rt, kind, number, outcome)?;
     reports::count(counts, kind, outcome);
+    Ok(())
 }
 
-fn run_all(s: &[u8]) {
+fn run_all(rt: &impl Print, s: &[u8]) -> io::Result<()> {
     let mut counts = [0usize; 18];
     let mut number = 0;
     let mut at = 0;
     while at < s.len() {
         let line = before(&s[at..], LINE_END);
         number = reports::more(number);
-        one(line, number, &mut counts);
+        one(rt, line, number, &mut counts)?;
         at = at + line.len() + 1;
     }
-    short_buffers(before(s, LINE_END));
-    reports::summary(&counts);
+    short_buffers(rt, before(s, LINE_END))?;
+    reports::summary(rt, &counts)
 }
 
-fn short_buffers(line: &[u8]) {
-    reports::short(b"short type buffer", judge_lines::with_short_types(line));
-    reports::short(b"short work buffer", judge_lines::with_short_work(line));
+fn short_buffers(rt: &impl Print, line: &[u8]) -> io::Result<()> {
+    reports::short(rt, b"short type buffer", judge_lines::with_short_types(line))?;
+    reports::short(rt, b"short work buffer", judge_lines::with_short_work(line))
 }
 
-fn main() {
+fn main(rt: HostRuntime) -> io::Result<()> {
     let mut input = buffers::input();
-    let n = io::read_full(STDIN_FILENO, &mut input);
+    let n = intake::fill(&mut rt.stdin(), &mut input)?;
     if n == 1600000 {
-        reports::too_long();
+        reports::too_long(&rt)?;
     }
-    run_all(&input[..n]);
+    run_all(&rt, &input[..n])
 }

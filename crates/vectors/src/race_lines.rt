@@ -30,7 +30,7 @@ fn read_none(fields: &[u8]) -> Said {
 }
 
 fn read_due(fields: &[u8]) -> Said {
-    if check::same(rest(fields), b"-") {
+    if rest(fields) == b"-" {
         return read_none(fields);
     }
     read_pair(fields)

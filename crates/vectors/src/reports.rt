@@ -1,5 +1,5 @@
 // What is printed, and the counts by kind.
-use libc::STDOUT_FILENO;
+use std::io;
 
 const KINDS: usize = 9;
 
@@ -60,48 +60,54 @@ pub(crate) fn count(counts: &mut [usize], kind: usize, outcome: Outcome) {
     }
 }
 
-fn print(text: &[u8]) {
-    io::write_all(STDOUT_FILENO, text);
+fn print(rt: &impl Print, text: &[u8]) -> io::Result<()> {
+    rt.write_all(text)
 }
 
-fn print_kind(kind: usize) {
+fn print_kind(rt: &impl Print, kind: usize) -> io::Result<()> {
     let letters: &[u8] = b"JLCNPTRQD";
     if kind < letters.len() {
-        print(&letters[kind..kind + 1]);
+        return print(rt, &letters[kind..kind + 1]);
+    }
+    Ok(())
+}
+
+fn print_vector(rt: &impl Print, kind: usize, number: usize, verdict: &[u8]) -> io::Result<()> {
+    print_kind(rt, kind)?;
+    print(rt, b" ")?;
+    rt.print(number)?;
+    print(rt, verdict)
+}
+
+fn print_unreadable(rt: &impl Print, number: usize) -> io::Result<()> {
+    print(rt, b"line ")?;
+    rt.print(number)?;
+    print(rt, b" unreadable\n")
+}
+
+pub(crate) fn vector(
+    rt: &impl Print,
+    kind: usize,
+    number: usize,
+    outcome: Outcome,
+) -> io::Result<()> {
+    match outcome {
+        Outcome::Passed => print_vector(rt, kind, number, b" ok\n"),
+        Outcome::Failed => print_vector(rt, kind, number, b" FAIL\n"),
+        Outcome::Unreadable => print_unreadable(rt, number),
     }
 }
 
-fn print_vector(kind: usize, number: usize, verdict: &[u8]) {
-    print_kind(kind);
-    print(b" ");
-    io::print_decimal(STDOUT_FILENO, number as u64);
-    print(verdict);
+pub(crate) fn too_long(rt: &impl Print) -> io::Result<()> {
+    print(rt, b"input too long\n")
 }
 
-fn print_unreadable(number: usize) {
-    print(b"line ");
-    io::print_decimal(STDOUT_FILENO, number as u64);
-    print(b" unreadable\n");
-}
-
-pub(crate) fn vector(kind: usize, number: usize, outcome: Outcome) {
+pub(crate) fn short(rt: &impl Print, what: &[u8], outcome: Outcome) -> io::Result<()> {
+    print(rt, what)?;
     match outcome {
-        Outcome::Passed => print_vector(kind, number, b" ok\n"),
-        Outcome::Failed => print_vector(kind, number, b" FAIL\n"),
-        Outcome::Unreadable => print_unreadable(number),
-    }
-}
-
-pub(crate) fn too_long() {
-    print(b"input too long\n");
-}
-
-pub(crate) fn short(what: &[u8], outcome: Outcome) {
-    print(what);
-    match outcome {
-        Outcome::Passed => print(b" ok\n"),
-        Outcome::Failed => print(b" FAIL\n"),
-        Outcome::Unreadable => print(b" unreadable\n"),
+        Outcome::Passed => print(rt, b" ok\n"),
+        Outcome::Failed => print(rt, b" FAIL\n"),
+        Outcome::Unreadable => print(rt, b" unreadable\n"),
     }
 }
 
@@ -110,19 +116,21 @@ fn count_of(counts: &[usize], which: usize, kind: usize) -> usize {
     if k < counts.len() { counts[k] } else { 0 }
 }
 
-fn print_run(kind: usize, done: usize, failed: usize) {
+fn print_run(rt: &impl Print, kind: usize, done: usize, failed: usize) -> io::Result<()> {
     if 0 < done {
-        io::print_decimal(STDOUT_FILENO, done as u64);
-        print(b" ");
-        print_kind(kind);
-        print(b" run, ");
-        io::print_decimal(STDOUT_FILENO, failed as u64);
-        print(b" failed\n");
+        rt.print(done)?;
+        print(rt, b" ")?;
+        print_kind(rt, kind)?;
+        print(rt, b" run, ")?;
+        rt.print(failed)?;
+        print(rt, b" failed\n")?;
     }
+    Ok(())
 }
 
-pub(crate) fn summary(counts: &[usize]) {
+pub(crate) fn summary(rt: &impl Print, counts: &[usize]) -> io::Result<()> {
     for kind in 0..KINDS {
-        print_run(kind, count_of(counts, 0, kind), count_of(counts, 1, kind));
+        print_run(rt, kind, count_of(counts, 0, kind), count_of(counts, 1, kind))?;
     }
+    Ok(())
 }

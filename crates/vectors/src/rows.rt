@@ -117,7 +117,7 @@ pub(crate) fn as_due(row: Row, due: Row, buffer: &[u8], expected: &[u8]) -> bool
     ensures { Exactly result (RowAsDue row due buffer.now expected.now) }
 {
     if equal(row, due) {
-        return check::same(buffer, expected);
+        return buffer == expected;
     }
     false
 }

@@ -2,6 +2,7 @@
 // line are put together from. Each function answers the place after what it wrote, or one more than the buffer's length where not all of it
 // fits, so that the next one writes nothing there; none asks anything of its caller.
 #![tactic(auto)]
+
 ghost use Rattle.std.specs.Prelude.{◌≡◌, ◌++◌, ◌<◌, min, take};
 ghost use Rattle.paper.specs.Texts.{decimal, hex, hex_digit};
 ghost use Rattle.writing.specs.Written.{Written};

@@ -8,7 +8,6 @@ use native.Mathlib.Nat.{add-zero}
 use lib.ListN.{length, get_or, set, length-set}
 use lib.Seq.{get_or-set_same}
 use borrow.Author.Tests.{le-leb, lt-leb, ne_eqb}
-use Rattle.paper.specs.Sets.{within}
 use Rattle.paper.specs.Types.{Ty, ty_size, subtype, related, below}
 use Rattle.types.specs.Holds.{Holds, Byte}
 use Rattle.judging.proofs.Held.{holds_end, kept_refl, kept_wider, kept_then, kept_set, byte_below}

@@ -7,7 +7,7 @@ use native.Mathlib.Omega.{arith}
 use native.Mathlib.Nat.{add-zero}
 use lib.Bits.{or_lt, bit_or}
 use lib.ListN.{length, get_or}
-use Rattle.paper.specs.Sets.{single, union, within}
+use Rattle.paper.specs.Sets.{single, union}
 use Rattle.paper.specs.Types.{Ty, unit, int, lock, ref, fun, ty_size}
 use Rattle.types.specs.Holds.{Holds}
 use Rattle.judging.proofs.Held.{kept_refl, by_ref}

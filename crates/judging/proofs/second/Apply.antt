@@ -8,7 +8,7 @@ use native.Mathlib.Omega.{arith}
 use lib.Bits.{or_lt, bit_or}
 use lib.ListN.{length, get_or}
 use Rattle.paper.specs.Base.{word32}
-use Rattle.paper.specs.Sets.{union, within}
+use Rattle.paper.specs.Sets.{union}
 use Rattle.paper.specs.Types.{Ty, unit, int, lock, ref, fun, ty_size, subtype, related, below}
 use Rattle.types.specs.Holds.{Holds, Four}
 use Rattle.judging.proofs.Held.{kept_refl}

@@ -6,7 +6,7 @@ use native.Mathlib.Omega.{arith}
 use lib.Bits.{or_lt, bit_or}
 use lib.ListN.{length, get_or, set, length-set}
 use lib.Seq.{get_or-set_same}
-use Rattle.paper.specs.Sets.{single, union, less, within}
+use Rattle.paper.specs.Sets.{single, union, less}
 use Rattle.paper.specs.Types.{Ty, unit, int, lock, ref, fun, ty_size}
 use Rattle.types.specs.Holds.{Holds}
 use Rattle.judging.proofs.Held.{kept_refl, kept_wider, kept_set}

@@ -6,7 +6,7 @@ use Prim.Native.Nat.{ℕ, ◌+◌, ◌-◌, ◌<◌, ◌≤◌}
 use native.Mathlib.Omega.{arith}
 use lib.Bits.{or_lt, bit_or}
 use lib.ListN.{length}
-use Rattle.paper.specs.Sets.{union, within}
+use Rattle.paper.specs.Sets.{union}
 use Rattle.paper.specs.Types.{Ty, ty_size, subtype, related, below}
 use Rattle.types.specs.Holds.{Holds}
 use Rattle.judging.proofs.Held.{holds_end, kept_refl, kept_wider}

@@ -7,7 +7,7 @@ use native.Mathlib.Omega.{arith}
 use lib.Bits.{or_lt, bit_or}
 use lib.ListN.{get_or, set, length-set}
 use lib.Seq.{get_or-set_same}
-use Rattle.paper.specs.Sets.{single, union, within}
+use Rattle.paper.specs.Sets.{single, union}
 use Rattle.paper.specs.Types.{Ty, unit, int, lock, ref, fun, ty_size, subtype, related, below}
 use Rattle.judging.proofs.Held.{kept_refl, kept_wider, kept_set}
 use Rattle.types.specs.Subtype.{Related}

@@ -13,7 +13,7 @@ use Rattle.reading.specs.Walk.{parts, binds1, locks1}
 use Rattle.reading.proofs.first.Laws.{lock_room}
 use Rattle.judging.specs.declared.work.Answer.{Answer}
 use Rattle.judging.specs.declared.work.Answer.TheVariants.{Typed, Refused}
-use Rattle.judging.specs.Rules.{typed, refused, ◌next◌, judge}
+use Rattle.judging.specs.Rules.{refused, ◌next◌, judge}
 use Rattle.judging.specs.Phases.{parts_of, env1, after1}
 use Rattle.judging.specs.Work.{Env, Frame, InSlot}
 use Rattle.judging.specs.Contract.{Out, Ready, Finds, Entered, Given, First, Kept1, Some1, AnswersIn1, Tests1, Starts, Due}

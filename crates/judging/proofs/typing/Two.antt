@@ -13,7 +13,7 @@ use Rattle.reading.specs.First.{exp_at}
 use Rattle.reading.specs.Walk.{parts}
 use Rattle.judging.specs.declared.work.Answer.{Answer}
 use Rattle.judging.specs.declared.work.Answer.TheVariants.{Typed, Refused}
-use Rattle.judging.specs.Rules.{typed, refused, ◌next◌, judge}
+use Rattle.judging.specs.Rules.{refused, ◌next◌, judge}
 use Rattle.judging.specs.Phases.{parts_of, env2, after2}
 use Rattle.judging.specs.Work.{Env, Frame, InSlot}
 use Rattle.judging.specs.Contract.{Out, Ready, Finds, Second, Some2, AnswersIn2, TestsIn2}

@@ -31,6 +31,7 @@ module _ (s : List ℕ) (i : ℕ) where
   place : {r : Read Ty} {p : ℕ} {t : Ty} {l : List ℕ} → Shown r → Reads s t l r → told r ≡ Next p → p ≡ i + ty_size t
   unfolding told
   place {p = p} (shown {j = j} h) (reads a) e = let z : p ≡ j = cc in z ∙ h.0.place
+  place {p = p} {t = t} {l = l} (denied {n = n} _) x6 e = elim x6 [ ]
 
   reads_no : {r : Read Ty} {k p : ℕ} {t : Ty} {l : List ℕ} → Reads s t l r → told r ≡ Refused k p → ⊥
   unfolding told

@@ -1,0 +1,11 @@
+-- `judging::binding::unit` meets its contract.
+use native.Mathlib.Omega.{arith}
+use Rattle.judging.proofs.binding.Leaves.{leaf_unit}
+use Rattle.judging.proofs.binding.Start.{after_unit}
+use Rattle.judging.proofs.binding.unit.Goals as goal
+
+pub overflow_add-result : goal.overflow_add-result
+overflow_add-result c = omega (arith, (after_unit c.requires.0 c.requires.1).1)
+
+pub returns : goal.returns
+returns c = rw c.slot_of.ensures (leaf_unit c.requires.0 (after_unit c.requires.0 c.requires.1).0 c.requires.1)

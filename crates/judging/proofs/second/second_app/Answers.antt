@@ -1,0 +1,26 @@
+-- `judging::second::second_app` meets its contract.
+use native.Mathlib.Omega.{arith}
+use Rattle.judging.proofs.second.Apply.{result_movable, arg_there, set_there, app_stop, app_go}
+use Rattle.judging.proofs.second.Plain.{facts}
+use Rattle.judging.proofs.second.second_app.Goals as goal
+
+pub overflow_sub-left : goal.overflow_sub-left
+overflow_sub-left c = (facts c.requires.2.1).0
+
+pub skip-p-requires : goal.skip-p-requires
+skip-p-requires c = rw c.slot_of-to.ensures (arg_there c.requires.2.1 c.requires.2.2)
+
+pub number-set-requires : goal.number-set-requires
+number-set-requires c = (set_there c.requires.2.1 c.requires.2.2 _ (rw c.slot_of-to.ensures at c.skip-p.ensures)).0
+
+pub overflow_add-p : goal.overflow_add-p
+overflow_add-p c = omega (arith, set_there c.requires.2.1 c.requires.2.2 c.skip-p.result (rw c.slot_of-to.ensures at c.skip-p.ensures))
+
+pub copy-requires : goal.copy-requires
+copy-requires c = rw c.slot_of-to.ensures (result_movable c.requires.2.1 c.requires.2.2 _ (rw c.slot_of-to.ensures at c.skip-p.ensures))
+
+pub returns-in-Differ : goal.returns-in-Differ
+returns-in-Differ c = λ img at n O e. app_stop O e (rw (c.slot_of-to.ensures, c.slot_of.ensures) at c.related.ensures) c.in-Differ.is
+
+pub returns-in-Next : goal.returns-in-Next
+returns-in-Next c = λ img at n O e. rw c.number-set.ensures (app_go O e (rw (c.slot_of-to.ensures, c.slot_of.ensures) at c.related.ensures) _ _ _ c.in-Next.is (rw c.slot_of-to.ensures at c.skip-p.ensures) (rw c.slot_of-to.ensures at c.copy.ensures))

@@ -1,0 +1,15 @@
+-- `judging::second::second_sync` meets its contract.
+use Rattle.judging.proofs.second.Plain.{part_movable, facts, sync_name, sync_second}
+use Rattle.judging.proofs.second.second_sync.Goals as goal
+
+pub overflow_sub-left : goal.overflow_sub-left
+overflow_sub-left c = (facts c.requires.2.1).0
+
+pub copy-requires : goal.copy-requires
+copy-requires c = rw (c.slot_of-to.ensures, c.slot_of.ensures) (part_movable c.requires.2.1)
+
+pub less-requires : goal.less-requires
+less-requires c = rw c.slot_of-to.ensures (sync_name c.requires.2.1 c.requires.2.2)
+
+pub returns : goal.returns
+returns c = λ part img at n O e. rw (c.less.ensures, c.slot_of-to.ensures) (sync_second O _ e (rw (c.slot_of.ensures, c.slot_of-to.ensures) at c.copy.ensures))

@@ -1,0 +1,24 @@
+use mathlib.Core.Path.{◌≡◌}
+use Prim.Native.Nat.{◌+◌, ◌≤◌, ◌*◌}
+use Rattle.paper.specs.Reading.{read_exp}
+use Rattle.types.specs.Told.{told}
+use Rattle.reading.proofs.first.+lead_if_lead_two_read_exp_read_lead.Given as goal
+
+abbrev pub invariant-read_exp-loop-p : goal.invariant-read_exp-loop-p
+invariant-read_exp-loop-p l =
+    (told (read_exp 1 l.deep l.s l.held l.under l.place) ≡ told (read_exp 1 l.left l.s l.locks l.vars l.at)) × (l.under + l.deep ≤ 64) × (l.held ≤ 32) × (l.deep ≤ l.left)
+
+abbrev pub decreases-read_exp-loop-p : goal.decreases-read_exp-loop-p
+decreases-read_exp-loop-p l = l.deep
+
+abbrev pub decreases-lead_if : goal.decreases-lead_if
+decreases-lead_if l = 3 * l.left
+
+abbrev pub decreases-lead_two : goal.decreases-lead_two
+decreases-lead_two l = 3 * l.left
+
+abbrev pub decreases-read_exp : goal.decreases-read_exp
+decreases-read_exp l = 3 * l.left + 2
+
+abbrev pub decreases-read_lead : goal.decreases-read_lead
+decreases-read_lead l = 3 * l.left + 1

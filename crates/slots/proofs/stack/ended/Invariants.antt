@@ -1,0 +1,10 @@
+use mathlib.Core.Path.{◌≡◌}
+use Prim.Native.Nat.{◌≤◌}
+use Rattle.slots.specs.Due.{ended, stack_of}
+use Rattle.slots.proofs.stack.ended.Given as goal
+
+abbrev pub invariant-loop-n : goal.invariant-loop-n
+invariant-loop-n l = (l.n ≤ l.sp) × (l.depth ≤ l.d) × (l.stack ≡ l.initial.stack) × (ended l.depth (stack_of l.stack l.n) ≡ ended l.d (stack_of l.initial.stack l.sp))
+
+abbrev pub decreases-loop-n : goal.decreases-loop-n
+decreases-loop-n l = l.n

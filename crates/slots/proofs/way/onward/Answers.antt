@@ -1,0 +1,60 @@
+-- Each test of the code is one of `onward`'s, and each way out a law.
+use mathlib.Core.Path.{sym, ◌∙◌}
+use native.Mathlib.Omega.{arith}
+use Rattle.slots.specs.WayLoop.{on_stop, on_cut, on_first, on_one, on_none, on_end, on_both, on_second}
+use Rattle.slots.proofs.way.onward.Goals as goal
+
+pub returns-then-not-goes_first : goal.returns-then-not-goes_first
+returns-then-not-goes_first c = on_stop c.requires (sym c.goes_first.ensures ∙ c.if-not-goes_first.true)
+
+pub returns-then-s-f : goal.returns-then-s-f
+returns-then-s-f c =
+    on_cut c.requires c.fields.result c.fields.ensures.says
+    (sym c.goes_first.ensures ∙ c.if-not-goes_first.false) c.if-s-f.true
+
+pub returns-then-not-value : goal.returns-then-not-value
+returns-then-not-value c =
+    on_first c.requires c.fields.result c.fields.ensures.says
+    (sym c.goes_first.ensures ∙ c.if-not-goes_first.false) (omega (arith, c.if-s-f.false))
+    (sym c.value.ensures ∙ c.if-not-value.true)
+
+pub returns-then-not-goes_second : goal.returns-then-not-goes_second
+returns-then-not-goes_second c =
+    on_one c.requires c.fields.result c.fields.ensures.says
+    (sym c.goes_first.ensures ∙ c.if-not-goes_first.false) (omega (arith, c.if-s-f.false))
+    (sym c.value.ensures ∙ c.if-not-value.false)
+    (sym c.goes_second.ensures ∙ c.if-not-goes_second.true)
+
+pub returns-then-e-f : goal.returns-then-e-f
+returns-then-e-f c =
+    on_none c.requires c.fields.result c.fields.ensures.says
+    (sym c.goes_first.ensures ∙ c.if-not-goes_first.false) (omega (arith, c.if-s-f.false))
+    (sym c.value.ensures ∙ c.if-not-value.false)
+    (sym c.goes_second.ensures ∙ c.if-not-goes_second.false) c.skip-e.result
+    c.skip-e.ensures.says c.if-e-f.true
+
+pub returns-then-s-e : goal.returns-then-s-e
+returns-then-s-e c =
+    on_end c.requires c.fields.result c.fields.ensures.says
+    (sym c.goes_first.ensures ∙ c.if-not-goes_first.false) (omega (arith, c.if-s-f.false))
+    (sym c.value.ensures ∙ c.if-not-value.false)
+    (sym c.goes_second.ensures ∙ c.if-not-goes_second.false) c.skip-e.result
+    c.skip-e.ensures.says (omega (arith, c.if-e-f.false)) c.if-s-e.true
+
+pub returns-then-value : goal.returns-then-value
+returns-then-value c =
+    on_both c.requires c.fields.result c.fields.ensures.says
+    (sym c.goes_first.ensures ∙ c.if-not-goes_first.false) (omega (arith, c.if-s-f.false))
+    (sym c.value.ensures ∙ c.if-not-value.false)
+    (sym c.goes_second.ensures ∙ c.if-not-goes_second.false) c.skip-e.result
+    c.skip-e.ensures.says (omega (arith, c.if-e-f.false)) (omega (arith, c.if-s-e.false))
+    (sym c.value-2.ensures ∙ c.if-value.true)
+
+pub returns : goal.returns
+returns c =
+    on_second c.requires c.fields.result c.fields.ensures.says
+    (sym c.goes_first.ensures ∙ c.if-not-goes_first.false) (omega (arith, c.if-s-f.false))
+    (sym c.value.ensures ∙ c.if-not-value.false)
+    (sym c.goes_second.ensures ∙ c.if-not-goes_second.false) c.skip-e.result
+    c.skip-e.ensures.says (omega (arith, c.if-e-f.false)) (omega (arith, c.if-s-e.false))
+    (sym c.value-2.ensures ∙ c.if-value.false)

@@ -1,0 +1,19 @@
+-- The ways of `RowWays`.
+use native.Mathlib.Omega.{arith}
+use Rattle.states.specs.Decides.{passed}
+use Rattle.states.specs.RowWays.{thread_unframed, thread_by}
+use Rattle.std.specs.Prelude.{not}
+use Rattle.std.proofs.Common.{ap}
+use Rattle.states.proofs.rows.is_thread.Goals as goal
+
+pub returns-then-not-is_framed : goal.returns-then-not-is_framed
+returns-then-not-is_framed c = thread_unframed c.is_framed.ensures (ap not c.if-not-is_framed.true)
+
+pub overflow_add-end : goal.overflow_add-end
+overflow_add-end c = omega (arith, (passed c.is_framed.ensures (ap not c.if-not-is_framed.false)).fits, c.two_at.ensures, c.requires.inside)
+
+pub slice_bounds-thread_slot-end : goal.slice_bounds-thread_slot-end
+slice_bounds-thread_slot-end c = omega (arith, (passed c.is_framed.ensures (ap not c.if-not-is_framed.false)).fits, c.two_at.ensures, c.requires.inside)
+
+pub returns : goal.returns
+returns c = thread_by c.is_framed.ensures (ap not c.if-not-is_framed.false) c.two_at.ensures c.thread_slot.ensures
