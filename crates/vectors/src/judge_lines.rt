@@ -30,7 +30,7 @@ fn sized(said: Said, size: usize) -> Said {
 // Puts the type's bytes first into types.
 fn read_due(fields: &[u8], types: &mut [u8]) -> Said {
     let last = past_two(fields);
-    if field(last) != b"-" {
+    if field(last) != b"-".as_slice() {
         return Said::Nothing;
     }
     match bytes(rest(last), types) {

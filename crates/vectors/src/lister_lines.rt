@@ -31,13 +31,13 @@ fn read_refusal(fields: &[u8], at: usize) -> Said {
 
 fn read_item(fields: &[u8], at: usize) -> Said {
     let word = field(fields);
-    if word == b"code" {
+    if word == b"code".as_slice() {
         return read_code(rest(fields), at);
     }
-    if word == b"refuse" {
+    if word == b"refuse".as_slice() {
         return read_refusal(rest(fields), at);
     }
-    if word == b"end" {
+    if word == b"end".as_slice() {
         return Said::Due(at, rows::row_of(0, 0, 0, 0, 0));
     }
     Said::Nothing

@@ -2,6 +2,7 @@
 // answers and every byte of the buffers lent to it are held to what the line says is due. A line is printed for each vector
 // that is run, and at the end how many of each kind were run and how many failed.
 #![tactic(auto)]
+
 mod buffers; // buffers.rt: the buffers
 mod due; // due.rt: the comparisons of the judge's and the loads' buffers
 mod fields; // fields.rt: the fields of a line
@@ -80,7 +81,11 @@ fn run_all(rt: &impl Print, s: &[u8]) -> io::Result<()> {
 }
 
 fn short_buffers(rt: &impl Print, line: &[u8]) -> io::Result<()> {
-    reports::short(rt, b"short type buffer", judge_lines::with_short_types(line))?;
+    reports::short(
+        rt,
+        b"short type buffer",
+        judge_lines::with_short_types(line),
+    )?;
     reports::short(rt, b"short work buffer", judge_lines::with_short_work(line))
 }
 

@@ -30,7 +30,7 @@ fn read_none(fields: &[u8]) -> Said {
 }
 
 fn read_due(fields: &[u8]) -> Said {
-    if rest(fields) == b"-" {
+    if rest(fields) == b"-".as_slice() {
         return read_none(fields);
     }
     read_pair(fields)

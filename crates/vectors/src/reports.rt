@@ -130,7 +130,12 @@ fn print_run(rt: &impl Print, kind: usize, done: usize, failed: usize) -> io::Re
 
 pub(crate) fn summary(rt: &impl Print, counts: &[usize]) -> io::Result<()> {
     for kind in 0..KINDS {
-        print_run(rt, kind, count_of(counts, 0, kind), count_of(counts, 1, kind))?;
+        print_run(
+            rt,
+            kind,
+            count_of(counts, 0, kind),
+            count_of(counts, 1, kind),
+        )?;
     }
     Ok(())
 }
