@@ -53,7 +53,7 @@ module _ (card : Card) (s : List ℕ) (short : length s < total card) where
   unfolding default_call
   default_short limit = rw (lt-ltb (length s) (total card) short)
 
--- on bytes that are no state (`StateBytes.no-state`): 18, and they are left as they were
+-- on bytes that are no state (`StateBytes.no_state`): 18, and they are left as they were
 module _ (card : Card) (s : List ℕ) (room : total card ≤ length s) (foreign : state_of card s ≡ none) where
   pub step_foreign : (i : ℕ) → step_call card s i ≡ record { says = record { answer = not_state; kind = 0; number = 0 }; state = s }
   unfolding step_call

@@ -1,5 +1,5 @@
 -- The judge and the rules. One walk through `judge`: what it answers of an expression in scope, the rules give, and what it refuses has a
--- number from 10 to 16 and a place inside the expression (`judge-says`). What the rules give, it answers (`complete`).
+-- number from 10 to 16 and a place inside the expression (`judge_says`). What the rules give, it answers (`complete`).
 use Rattle.std.specs.Prelude.{◌≡◌, Bool, ◌&&◌, not, List, ◌∷◌, map, ℕ, suc, ◌+◌, ◌<◌, ◌≤◌, eqb, length}
 use Rattle.std.proofs.Math.Path.{refl}
 use Rattle.std.proofs.Common.{sym, ap, ◌∙◌, arith, leb-true, le-leb, eqb-true}

@@ -60,7 +60,7 @@ module _ (card : Card) (S : State) where
   either true f g = f tt refl
   either false f g = g tt refl
 
-  -- post-goes as a function: its arguments are read with the goal known.
+  -- post_goes as a function: its arguments are read with the goal known.
   moved : {e e' : Term} {k n : ℕ} {c : Change} → placed (cells_after C c) (locks_after L c) e' ≡ true
       → ((l : ℕ) → count l (sections e') + freed l c ≡ count l (sections e) + took l c) → ChangeOk card S e c → Next e (goes k n e' c)
   moved w c p = post_goes (record { stands = w; counts = c; fine = p })

@@ -1,4 +1,4 @@
--- The test `subtype` is the relation of document 01's sentence (`subtype-iff`), and that is an order: reflexive, transitive, and, between
+-- The test `subtype` is the relation of document 01's sentence (`subtype_iff`), and that is an order: reflexive, transitive, and, between
 -- types of 32 names, antisymmetric.
 use Rattle.std.specs.Prelude.{◌≡◌, refl, ◌↔◌, Bool, true, false, ◌&&◌, ℕ, ◌^◌, ◌<◌, eqb}
 use Rattle.std.proofs.Common.{sym, ap, subst, eqb-true, eq-eqb}

@@ -1,6 +1,6 @@
 -- The verdict on an image. Every byte string is accepted, or refused with a number of document 01's list at a place that is at most the
 -- image's length (`decided`). It is accepted exactly when the rules give what was read a type, with an empty need, within the limits,
--- and then that type is the answer (`accepted-iff`). A whole program never needs a lock, since none is in scope outside it.
+-- and then that type is the answer (`accepted_iff`). A whole program never needs a lock, since none is in scope outside it.
 use Rattle.std.specs.Prelude.{◌≡◌, ◌↔◌, Bool, true, false, ◌||◌, not, ℕ, ◌+◌, ◌<◌, ◌≤◌, ltb, eqb, length}
 use Rattle.std.proofs.Math.Path.{refl}
 use Rattle.std.proofs.Common.{subst, arith, lt-ltb, ltb-true, ltb-false}

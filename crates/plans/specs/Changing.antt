@@ -55,7 +55,7 @@ module _ (card : Card) (fits : Fits card) (S : State) (i : ℕ) (e : Term) (here
       rw q
       (thread_set fits (thread_made fits h x room (rw n at p).1 (rw n at p).2) i e (omega (arith, snoc_length es x)) (omega (arith, snoc_length es x)) st)
 
--- the buffer held S; that the state after the change is good, `good-step` of `laws` says
+-- the buffer held S; that the state after the change is good, `good_step` of `laws` says
 pub changed_holds : (card : Card) → Fits card → (S : State) (i : ℕ) (e : Term) (c : Change) {s m r : List ℕ} → Holds card s S
     → i < length S.threads → Named S c → good card (changed S i e c) ≡ true → Else card S c s m → ThreadStored card i e m r
     → Holds card r (changed S i e c)

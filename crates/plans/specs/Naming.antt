@@ -1,4 +1,4 @@
--- In a good state the cell or lock that a thread's next move names is there, and a new thread is next: so what `changed-holds` asks for
+-- In a good state the cell or lock that a thread's next move names is there, and a new thread is next: so what `changed_holds` asks for
 -- of a change holds of every step.
 use Rattle.std.specs.Prelude.{◌≡◌, refl, Bool, true, false, ◌&&◌, ℕ, ◌<◌, leb, ltb, eqb, length, get_or}
 use Rattle.std.proofs.Math.Option.{Option, none, some}

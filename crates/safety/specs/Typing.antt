@@ -1,6 +1,6 @@
 -- The typing of running terms: `HasTy C Γ p e t` says that e has the type t under the variables Γ where the locks named in p are
 -- held. Each rule that makes a type has a subtype step built in. `rename` is renaming, weakening and subsumption in one, and
--- `put-ty` is substitution.
+-- `put_ty` is substitution.
 use Rattle.std.specs.Prelude.{◌≡◌, refl, ◌⊎◌, List, [], ◌∷◌, map, true, false, ℕ, zero, suc, ◌≤◌, ◌<◌, eqb}
 use Rattle.std.proofs.Common.{sym, ap, ◌∙◌, subst, inl, inr, arith}
 use Rattle.std.proofs.Math.Option.{some}

@@ -1,4 +1,4 @@
--- By the number of parts, and then by the binder: the laws `after-leaf` to `after-three`.
+-- By the number of parts, and then by the binder: the laws `after_leaf` to `after_three`.
 use mathlib.Core.Path.{◌≡◌, sym, ap, ◌∙◌}
 use mathlib.Core.List.{List, ◌∷◌}
 use Prim.Native.Nat.{ℕ}

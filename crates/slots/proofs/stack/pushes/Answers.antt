@@ -1,4 +1,4 @@
--- The two ways are `push-one` and `push-more`.
+-- The two ways are `push_one` and `push_more`.
 use mathlib.Core.Path.{sym, ◌∙◌}
 use native.Mathlib.Omega.{arith}
 use Rattle.slots.specs.Due.{push_one, push_more}
