@@ -6,7 +6,7 @@ use Rattle.paper.specs.States.{State, sixteen, total}
 use Rattle.paper.specs.StateOf.{state_of}
 use Rattle.paper.specs.Runs.{Race}
 use Rattle.paper.specs.Calls.{RaceCall, race_call}
-use Rattle.laws.specs.Tests.{none-some}
+use Rattle.laws.specs.Tests.{none_some}
 use Rattle.laws.specs.Cards.{sixteen_fits}
 use Rattle.laws.specs.StateBytes.{state_holds}
 use Rattle.laws.specs.CallLaws.{race_call_lem, race_short, race_foreign}
@@ -33,7 +33,7 @@ pub call_fits : (s : List ℕ) → Fits (race_call sixteen s)
 call_fits s = go (ltb (length s) (total sixteen)) refl (state_of sixteen s) refl
   where
     none_there : (c : RaceCall) → race_call sixteen s ≡ c → c.pair ≡ none → Fits (race_call sixteen s)
-    none_there c e q r h = none-some (sym q ∙ ap (λ (x : RaceCall). x.pair) (sym e) ∙ h)
+    none_there c e q r h = none_some (sym q ∙ ap (λ (x : RaceCall). x.pair) (sym e) ∙ h)
 
     go : (b : Bool) → ltb (length s) (total sixteen) ≡ b → (o : Option State) → state_of sixteen s ≡ o → Fits (race_call sixteen s)
     go true q o e = none_there _ (race_short sixteen s (ltb-true (length s) (total sixteen) q)) refl

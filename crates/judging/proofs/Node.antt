@@ -16,7 +16,7 @@ use Rattle.types.specs.declared.stated.Got.TheVariants.{Next}
 use Rattle.types.specs.Told.{told}
 use Rattle.reading.specs.Placed as e
 use Rattle.reading.specs.Placed.{Exp, place_of}
-use Rattle.reading.specs.First.{Code, ended, other, is_unit, isNum, isVar, isLam, isApp, isCell, isRead, isWrite, isFork, isLock, isSync, isLet, isSeq, isAdd, isIf, code_of, code_at, num_at, var_at, exp_as, exp_at, too_deep}
+use Rattle.reading.specs.First.{Code, ended, other, is_unit, is_num, is_var, is_lam, is_app, is_cell, is_read, is_write, is_fork, is_lock, is_sync, is_let, is_seq, is_add, is_if, code_of, code_at, num_at, var_at, exp_as, exp_at, too_deep}
 use Rattle.reading.specs.Walk.{fields, parts, binds1, locks1, binds2}
 use Rattle.reading.proofs.first.Laws.{by_code}
 use Rattle.types.specs.Holds.{Byte, Four}
@@ -223,20 +223,20 @@ unfolding too_deep
 deep_never ended s at x next h = never h
 deep_never other s at x next h = never h
 deep_never is_unit s at x next h = never h
-deep_never isNum s at x next h = never h
-deep_never isVar s at x next h = never h
-deep_never isLam s at x next h = never h
-deep_never isApp s at x next h = never h
-deep_never isCell s at x next h = never h
-deep_never isRead s at x next h = never h
-deep_never isWrite s at x next h = never h
-deep_never isFork s at x next h = never h
-deep_never isLock s at x next h = never h
-deep_never isSync s at x next h = never h
-deep_never isLet s at x next h = never h
-deep_never isSeq s at x next h = never h
-deep_never isAdd s at x next h = never h
-deep_never isIf s at x next h = never h
+deep_never is_num s at x next h = never h
+deep_never is_var s at x next h = never h
+deep_never is_lam s at x next h = never h
+deep_never is_app s at x next h = never h
+deep_never is_cell s at x next h = never h
+deep_never is_read s at x next h = never h
+deep_never is_write s at x next h = never h
+deep_never is_fork s at x next h = never h
+deep_never is_lock s at x next h = never h
+deep_never is_sync s at x next h = never h
+deep_never is_let s at x next h = never h
+deep_never is_seq s at x next h = never h
+deep_never is_add s at x next h = never h
+deep_never is_if s at x next h = never h
 
 -- a code that is none, and one past the end, give no expression
 code_past : (s : List ℕ) (at : ℕ) → length s ≤ at → code_at s at ≡ ended

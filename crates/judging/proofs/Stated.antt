@@ -10,7 +10,7 @@ use borrow.Author.Tests.{le-ltb, lt-ltb, le-leb, lt-leb, ne_eqb, eq-eqb}
 use Rattle.paper.specs.Base.{word32}
 use Rattle.paper.specs.Types.{Ty, unit, int, lock, ref, fun, ty_size}
 use Rattle.paper.specs.Reading.{Read, got, wrong}
-use Rattle.types.specs.Stated.{pick, name_at, set_at, stated_at, sized, ty_at, ty_as, too_deep, tag_at, tag_of, Tag, ended, other, is_unit, isInt, isLock, isRef, isFun}
+use Rattle.types.specs.Stated.{pick, name_at, set_at, stated_at, sized, ty_at, ty_as, too_deep, tag_at, tag_of, Tag, ended, other, is_unit, is_int, is_lock, is_ref, is_fun}
 use Rattle.types.specs.Holds.{Holds, Byte, Four}
 use Rattle.judging.specs.Shift.{Within}
 use Rattle.judging.proofs.Inversion.{never, then_got}
@@ -20,10 +20,10 @@ abbrev TagFact : List ℕ → ℕ → Tag → Type 0
 TagFact s at ended = Unit {0}
 TagFact s at other = Unit {0}
 TagFact s at is_unit = Byte s at 32
-TagFact s at isInt = Byte s at 33
-TagFact s at isLock = Byte s at 34
-TagFact s at isRef = Byte s at 35
-TagFact s at isFun = Byte s at 36
+TagFact s at is_int = Byte s at 33
+TagFact s at is_lock = Byte s at 34
+TagFact s at is_ref = Byte s at 35
+TagFact s at is_fun = Byte s at 36
 
 tag_fact : (s : List ℕ) (at : ℕ) → TagFact s at (tag_at s at)
 unfolding tag_at tag_of
@@ -32,7 +32,7 @@ tag_fact s at = go (dec_le (suc at) (length s)) (ℕ_discrete b 32) (ℕ_discret
     b : ℕ
     b = get_or s at 0
 
-    go : Dec (at < length s) → Dec (b ≡ 32) → Dec (b ≡ 33) → Dec (b ≡ 34) → Dec (b ≡ 35) → Dec (b ≡ 36) → TagFact s at (pick (ltb at (length s)) (pick (eqb b 32) is_unit (pick (eqb b 33) isInt (pick (eqb b 34) isLock (pick (eqb b 35) isRef (pick (eqb b 36) isFun other))))) ended)
+    go : Dec (at < length s) → Dec (b ≡ 32) → Dec (b ≡ 33) → Dec (b ≡ 34) → Dec (b ≡ 35) → Dec (b ≡ 36) → TagFact s at (pick (ltb at (length s)) (pick (eqb b 32) is_unit (pick (eqb b 33) is_int (pick (eqb b 34) is_lock (pick (eqb b 35) is_ref (pick (eqb b 36) is_fun other))))) ended)
     go (no l) _ _ _ _ _ = rw (le-ltb at (length s) (omega arith)) tt
     go (yes l) (yes e) _ _ _ _ = rw (lt-ltb at (length s) l, eq-eqb b 32 e) (l, e)
     go (yes l) (no a) (yes e) _ _ _ = rw (lt-ltb at (length s) l, ne_eqb b 32 a, eq-eqb b 33 e) (l, e)
@@ -80,19 +80,19 @@ unfolding ty_as ty_size
 by_tag ended part n s at t p ih f h = never h
 by_tag other part n s at t p ih f h = never h
 by_tag is_unit part n s at t p ih f h = made n s at unit t (at + 1) p h (record { holds = f; within = tt; end = refl })
-by_tag isInt part n s at t p ih f h = made n s at int t (at + 1) p h (record { holds = f; within = tt; end = refl })
-by_tag isLock part n s at t p ih f h =
+by_tag is_int part n s at t p ih f h = made n s at int t (at + 1) p h (record { holds = f; within = tt; end = refl })
+by_tag is_lock part n s at t p ih f h =
     let k = then_got (name_at n s (at + 1)) _ t p h in
     let b = name_got n s (at + 1) k.val k.mid k.first in
     made n s at (lock k.val) t k.mid p k.rest (record { holds = (f, b.0); within = b.1; end = omega (arith, b.2) })
-by_tag isRef part n s at t p ih f h =
+by_tag is_ref part n s at t p ih f h =
     let k = then_got (name_at n s (at + 1)) _ t p h in
     let b = name_got n s (at + 1) k.val k.mid k.first in
     let c = then_got (part k.mid) _ t p k.rest in
     let i = ih k.mid c.val c.mid c.first in
     let e : k.mid ≡ at + 2 = omega (arith, b.2) in
     made n s at (ref k.val c.val) t c.mid p c.rest (record { holds = (f, b.0, subst (λ (z : ℕ). Holds s z c.val) e i.holds); within = (b.1, i.within); end = omega (arith, i.end) })
-by_tag isFun part n s at t p ih f h =
+by_tag is_fun part n s at t p ih f h =
     let a = then_got (part (at + 1)) _ t p h in
     let i = ih (at + 1) a.val a.mid a.first in
     let m = then_got (set_at n s a.mid) _ t p a.rest in
@@ -112,10 +112,10 @@ unfolding too_deep
 deep_never ended s at t p h = never h
 deep_never other s at t p h = never h
 deep_never is_unit s at t p h = never h
-deep_never isInt s at t p h = never h
-deep_never isLock s at t p h = never h
-deep_never isRef s at t p h = never h
-deep_never isFun s at t p h = never h
+deep_never is_int s at t p h = never h
+deep_never is_lock s at t p h = never h
+deep_never is_ref s at t p h = never h
+deep_never is_fun s at t p h = never h
 
 pub ty_got : (d n : ℕ) (s : List ℕ) (at : ℕ) (t : Ty) (p : ℕ) → ty_at d n s at ≡ got t p → IsTy n s at t p
 unfolding ty_at

@@ -17,24 +17,24 @@ abbrev step_case : Answer → StepCase
 step_case a =
     choose (eqb a.answer 0) (λ _. StepCase.made a.kind a.number) λ _.
     choose (eqb a.answer 1) (λ _. StepCase.buffer_short) λ _.
-    choose (eqb a.answer 18) (λ _. StepCase.noState) λ _.
-    choose (eqb a.answer 19) (λ _. StepCase.noSuchThread) λ _.
-    choose (eqb a.answer 20) (λ _. StepCase.isFinished) λ _.
+    choose (eqb a.answer 18) (λ _. StepCase.no_state) λ _.
+    choose (eqb a.answer 19) (λ _. StepCase.no_such_thread) λ _.
+    choose (eqb a.answer 20) (λ _. StepCase.is_finished) λ _.
     choose (eqb a.answer 21) (λ _. StepCase.waits_for a.number) λ _.
     choose (eqb a.answer 22) (λ _. StepCase.is_stuck) λ _.
-    choose (eqb a.answer 23) (λ _. StepCase.tooMany) (λ _. StepCase.tooLong)
+    choose (eqb a.answer 23) (λ _. StepCase.too_many) (λ _. StepCase.too_long)
 
 step_back : (c : StepCase) → step_case (told c) ≡ c
 unfolding told
 step_back (StepCase.made k n) = refl
 step_back StepCase.buffer_short = refl
-step_back StepCase.noState = refl
-step_back StepCase.noSuchThread = refl
-step_back StepCase.isFinished = refl
+step_back StepCase.no_state = refl
+step_back StepCase.no_such_thread = refl
+step_back StepCase.is_finished = refl
 step_back (StepCase.waits_for l) = refl
 step_back StepCase.is_stuck = refl
-step_back StepCase.tooMany = refl
-step_back StepCase.tooLong = refl
+step_back StepCase.too_many = refl
+step_back StepCase.too_long = refl
 
 pub told_injective : (c d : StepCase) → told c ≡ told d → c ≡ d
 told_injective = from_back told step_case step_back
@@ -44,7 +44,7 @@ told_injective = from_back told step_case step_back
 abbrev race_case : RaceCall → RaceCase
 race_case r =
     choose (eqb r.answer 1) (λ _. RaceCase.buffer_short) λ _.
-    choose (eqb r.answer 18) (λ _. RaceCase.noState) λ _.
+    choose (eqb r.answer 18) (λ _. RaceCase.no_state) λ _.
     elim r.pair [ some p ↦ RaceCase.between p.first p.second p.cell | none ↦ RaceCase.no_race ]
 
 race_back : (c : RaceCase) → race_case (told_race c) ≡ c
@@ -52,7 +52,7 @@ unfolding told_race
 race_back (RaceCase.between i j c) = refl
 race_back RaceCase.no_race = refl
 race_back RaceCase.buffer_short = refl
-race_back RaceCase.noState = refl
+race_back RaceCase.no_state = refl
 
 pub race_injective : (c d : RaceCase) → told_race c ≡ told_race d → c ≡ d
 race_injective = from_back told_race race_case race_back
@@ -62,13 +62,13 @@ race_injective = from_back told_race race_case race_back
 abbrev default_case : DefaultTold → DefaultCase
 default_case r =
     choose (eqb r.answer 1) (λ _. DefaultCase.buffer_short) λ _.
-    choose (eqb r.answer 18) (λ _. DefaultCase.noState) (λ _. DefaultCase.ran r.steps)
+    choose (eqb r.answer 18) (λ _. DefaultCase.no_state) (λ _. DefaultCase.ran r.steps)
 
 default_back : (c : DefaultCase) → default_case (told_default c) ≡ c
 unfolding told_default
 default_back (DefaultCase.ran n) = refl
 default_back DefaultCase.buffer_short = refl
-default_back DefaultCase.noState = refl
+default_back DefaultCase.no_state = refl
 
 pub default_injective : (c d : DefaultCase) → told_default c ≡ told_default d → c ≡ d
 default_injective = from_back told_default default_case default_back

@@ -7,7 +7,7 @@ use Rattle.std.proofs.Math.Option.{some}
 use Rattle.std.proofs.Math.ListN.{get_elem? as get}
 pub use Rattle.paper.specs.Base.{All, all_nil, all_cons}
 use Rattle.paper.specs.States.{all}
-use Rattle.laws.specs.Tests.{none-some, split}
+use Rattle.laws.specs.Tests.{none_some, split}
 
 -- the list with `mid` for the part from p up to q
 unfoldable pub spliced : List ℕ → ℕ → ℕ → List ℕ → List ℕ
@@ -25,12 +25,12 @@ module _ {A : Type 0} where
   get_get_d (x ∷ l) (suc k) d h = get_get_d l k d (omega arith)
 
   pub get_d_get : (l : List A) (k : ℕ) (d : A) {x : A} → get l k ≡ some x → get_or l k d ≡ x
-  get_d_get [] k d e = none-some e
+  get_d_get [] k d e = none_some e
   get_d_get (y ∷ l) zero d {x} e = cc
   get_d_get (y ∷ l) (suc k) d e = get_d_get l k d e
 
   pub get_lt : (l : List A) (k : ℕ) {x : A} → get l k ≡ some x → k < length l
-  get_lt [] k e = none-some e
+  get_lt [] k e = none_some e
   get_lt (y ∷ l) zero e = omega arith
   get_lt (y ∷ l) (suc k) e = let h = get_lt l k e in omega arith
 
@@ -42,13 +42,13 @@ module _ {A : Type 0} where
   get_end (y ∷ l) x = get_end l x
 
   pub get_append : (l m : List A) (k : ℕ) {x : A} → get l k ≡ some x → get (l ++ m) k ≡ some x
-  get_append [] m k e = none-some e
+  get_append [] m k e = none_some e
   get_append (y ∷ l) m zero e = e
   get_append (y ∷ l) m (suc k) e = get_append l m k e
 
   pub get_snoc : (l : List A) (x : A) (k : ℕ) {y : A} → get (l ++ (x ∷ [])) k ≡ some y → (get l k ≡ some y) ⊎ ((k ≡ length l) × (x ≡ y))
   get_snoc [] x zero {y} e = inr (refl, cc)
-  get_snoc [] x (suc k) e = none-some e
+  get_snoc [] x (suc k) e = none_some e
   get_snoc (z ∷ l) x zero e = inl e
   get_snoc (z ∷ l) x (suc k) e = more (get_snoc l x k e)
     where
@@ -58,7 +58,7 @@ module _ {A : Type 0} where
 
   pub get_set : (l : List A) (i : ℕ) (x : A) (k : ℕ) {y : A} → get l k ≡ some y
       → ((k ≡ i) × (get (set l i x) k ≡ some x)) ⊎ ((k ≢ i) × (get (set l i x) k ≡ some y))
-  get_set [] i x k e = none-some e
+  get_set [] i x k e = none_some e
   get_set (z ∷ l) zero x zero e = inl (refl, refl)
   get_set (z ∷ l) zero x (suc k) e = inr (omega arith, e)
   get_set (z ∷ l) (suc i) x zero e = inr (omega arith, e)
@@ -71,7 +71,7 @@ module _ {A : Type 0} where
 
   module _ {P : A → Type 0} where
     pub all_get : {l : List A} → All P l → (k : ℕ) {x : A} → get l k ≡ some x → P x
-    all_get all_nil k e = none-some e
+    all_get all_nil k e = none_some e
     all_get (all_cons h r) zero {x} e = subst P (cc) h
     all_get (all_cons h r) (suc k) e = all_get r k e
 

@@ -8,7 +8,7 @@ use Rattle.paper.specs.Base.{choose}
 use Rattle.paper.specs.Terms.{Term}
 use Rattle.paper.specs.Evaluation.{touches}
 use Rattle.paper.specs.Runs.{Race, partner, race}
-use Rattle.laws.specs.Tests.{none-some}
+use Rattle.laws.specs.Tests.{none_some}
 
 -- thread n of the list is about to touch c
 abbrev At : List Term → ℕ → ℕ → Type 0
@@ -16,7 +16,7 @@ At es n c = touches (get_or es n Term.unit) ≡ some c
 
 nobody : (c n : ℕ) → At [] n c → ⊥
 unfolding touches
-nobody c n e = none-some e
+nobody c n e = none_some e
 
 -- ---- the partner
 
@@ -58,7 +58,7 @@ partners c j (e ∷ es) = seen (touches e) refl (partners c (suc j) es)
     seen : (o : Option ℕ) → touches e ≡ o → {r : Option ℕ} → Partners c (suc j) es r
         → Partners c j (e ∷ es) (elim o [ some d ↦ choose (eqb c d) (λ _. some j) (λ _. r) | none ↦ r ])
     seen (some d) q p = same d q (eqb c d) refl p
-    seen none q p = later (λ h. none-some (sym q ∙ h)) p
+    seen none q p = later (λ h. none_some (sym q ∙ h)) p
 
 -- ---- the pair
 
@@ -149,7 +149,7 @@ races i (e ∷ es) = seen (touches e) refl (races (suc i) es)
     seen : (o : Option ℕ) → touches e ≡ o → {r : Option Race} → Found (suc i) es r
         → Found i (e ∷ es) (elim o [ some c ↦ elim (partner c (suc i) es) [ some j ↦ some (record { first = i; second = j; cell = c }) | none ↦ r ] | none ↦ r ])
     seen (some c) q x = with_partner c q (partners c (suc i) es) x
-    seen none q x = later (λ b c h. none-some (sym q ∙ h.left)) x
+    seen none q x = later (λ b c h. none_some (sym q ∙ h.left)) x
 
 -- where no two threads are about to touch one cell, it says none
 pub race_none : (i : ℕ) (es : List Term)

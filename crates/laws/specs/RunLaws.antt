@@ -14,7 +14,7 @@ use Rattle.paper.specs.States.{Card, State, total, plan, good, Holds, Fits}
 use Rattle.paper.specs.Steps.{Move, finished, waits, stuck, full, long, goes, Answer, Stepped, outcome, step}
 use Rattle.paper.specs.Runs.{Ran, run, counted, Made, tried, first_of, lowest, Finished, default}
 use Rattle.paper.specs.Calls.{laid, StepCall, step_call, after_step, RunCall, call_all, run_call}
-use Rattle.laws.specs.Tests.{none-some}
+use Rattle.laws.specs.Tests.{none_some}
 use Rattle.laws.specs.StateBytes.{good_sound, plan_length}
 use Rattle.laws.specs.CallLaws.{laid_length, laid_holds, step_call_lem}
 use Rattle.laws.specs.Keeping.{Is, is, of, either, good_step}
@@ -142,11 +142,11 @@ module _ (card : Card) (fits : Fits card) where
           → choose {X = Option Made} b (λ _. some (record { thread = i; kind = (step card S i).says.kind; number = (step card S i).says.number; after = (step card S i).state })) (λ _. none) ≡ some m
           → good card m.after ≡ true
       go true q = let z : (step card S i).state ≡ m.after = cc in rw (← z) (good_step card S i g)
-      go false q = none-some q
+      go false q = none_some q
 
   first_good : (S : State) (i n : ℕ) {m : Made} → good card S ≡ true → first_of card S i n ≡ some m → good card m.after ≡ true
   unfolding first_of
-  first_good S i zero g q = none-some q
+  first_good S i zero g q = none_some q
   first_good S i (suc n) {m} g h = go (tried card S i) refl (λ q. first_good S (suc i) n g q) h
     where
       go : (o : Option Made) → tried card S i ≡ o → (first_of card S (suc i) n ≡ some m → good card m.after ≡ true)

@@ -7,7 +7,7 @@ use Rattle.paper.specs.Base.{choose, All, all_nil, all_cons}
 use Rattle.paper.specs.Terms.{Term}
 use Rattle.paper.specs.States.{Card, State}
 use Rattle.paper.specs.Steps.{new_place, seat}
-use Rattle.laws.specs.Tests.{none-some}
+use Rattle.laws.specs.Tests.{none_some}
 use Rattle.laws.specs.Lists.{all_append}
 
 pub record NewPlace (card : Card) (S : State) (i : ℕ) : Type 0 where
@@ -20,7 +20,7 @@ new_place_lem card S i = go (ltb (length S.threads) card.threads) refl
   where
     go : (b : Bool) → ltb (length S.threads) card.threads ≡ b → choose b (λ _. some (length S.threads)) (λ _. none) ≡ some i → NewPlace card S i
     go true e q = record { next = cc; room = ltb-true (length S.threads) card.threads e }
-    go false e q = none-some q
+    go false e q = none_some q
 
 pub seat_end : (es : List Term) (i : ℕ) (x : Term) → i ≡ length es → seat i x es ≡ es ++ (x ∷ [])
 unfolding seat

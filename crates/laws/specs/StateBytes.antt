@@ -13,7 +13,7 @@ use Rattle.paper.specs.Base.{at, bytes2}
 use Rattle.paper.specs.Terms.{value}
 use Rattle.paper.specs.States.{Card, State, total, pad, lengths, slots, plan, good, marked, opened, Holds, Fits}
 use Rattle.paper.specs.StateOf.{same_bytes, slots_from, state_from, state_in, state_of}
-use Rattle.laws.specs.Tests.{split, split₇, no_true, none-some}
+use Rattle.laws.specs.Tests.{split, split₇, no_true, none_some}
 use Rattle.laws.specs.Lists.{All, all_map, test_all}
 use Rattle.laws.specs.SlotBytes.{both, plain_small, placed_small, pad_length, lengths_length, Slot, part_length, slots_from_lem}
 
@@ -170,8 +170,8 @@ module _ (card : Card) (fits : Fits card) where
       tests T true true g q e =
           let z : T ≡ S = cc in
           record { bytes = rw (← z) (same_true (take (total card) s) (plan card T) q); state = rw (← z) g }
-      tests T true false g q e = none-some e
-      tests T false c g q e = none-some e
+      tests T true false g q e = none_some e
+      tests T false c g q e = none_some e
 
       read : (o : Option State)
           → elim o [
@@ -179,7 +179,7 @@ module _ (card : Card) (fits : Fits card) where
             | none ↦ none
           ] ≡ some S → Holds card s S
       read (some T) e = tests T (good card T) (same_bytes (take (total card) s) (plan card T)) refl refl e
-      read none e = none-some e
+      read none e = none_some e
 
   -- exactly when the bytes hold S
   pub state_iff : (s : List ℕ) (S : State) → (state_of card s ≡ some S) ↔ Holds card s S

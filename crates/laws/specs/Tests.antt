@@ -8,8 +8,8 @@ pub use Rattle.paper.specs.Known.{no_true, split}
 pub not_both {ℓ} : {B : Type ℓ} (b : Bool) → b ≡ true → b ≡ false → B
 not_both b e f = no_true (sym f ∙ e)
 
-pub none-some {ℓ} : {A : Type 0} {B : Type ℓ} {x : A} → ◌≡◌ {A = Option A} none (some x) → B
-none-some e = absurd (let z : ◌≡◌ {A = ℕ} 0 1 = cc in omega arith)
+pub none_some {ℓ} : {A : Type 0} {B : Type ℓ} {x : A} → ◌≡◌ {A = Option A} none (some x) → B
+none_some e = absurd (let z : ◌≡◌ {A = ℕ} 0 1 = cc in omega arith)
 
 pub split₃ : (a b c : Bool) → a && b && c ≡ true → (a ≡ true) × (b ≡ true) × (c ≡ true)
 split₃ true true c e = (refl, refl, e)

@@ -8,7 +8,7 @@ use Rattle.paper.specs.Terms.{Term, value, as_cell}
 use Rattle.paper.specs.Evaluation.{touches, plain, placed}
 use Rattle.paper.specs.States.{Card, State, good, Fits}
 use Rattle.paper.specs.Runs.{Race, race}
-use Rattle.laws.specs.Tests.{none-some, split, split₃}
+use Rattle.laws.specs.Tests.{none_some, split, split₃}
 use Rattle.laws.specs.Lists.{all_get}
 use Rattle.laws.specs.Values.{Value, v_unit, v_num, v_fun, v_lock, v_cell, is_value_lem}
 use Rattle.laws.specs.Placed.{value_plain}
@@ -74,7 +74,7 @@ module _ (C L : ℕ) where
   touched e w c q = go (touches_below e w) q
     where
       go : {o : Option ℕ} → Below o → o ≡ some c → c < C
-      go rests r = none-some r
+      go rests r = none_some r
       go (aims {c = d} h) r = let z : d ≡ c = cc in omega arith
 
 -- ---- the pair's threads are there
@@ -85,7 +85,7 @@ at_inside es n c e = go (ltb n (length es)) refl
   where
     go : (b : Bool) → ltb n (length es) ≡ b → n < length es
     go true q = ltb-true n (length es) q
-    go false q = none-some (ap touches (sym (get_or-eq_default es Term.unit (ltb-false n (length es) q))) ∙ e)
+    go false q = none_some (ap touches (sym (get_or-eq_default es Term.unit (ltb-false n (length es) q))) ∙ e)
 
 pub record SmallRace (r : Race) : Type 0 where
   pub first : r.first < 16
@@ -97,7 +97,7 @@ module _ (card : Card) (S : State) (fits : Fits card) (g : good card S ≡ true)
   race_small r q = go (races 0 S.threads) q
     where
       go : {o : Option Race} → Found 0 S.threads o → o ≡ some r → SmallRace r
-      go (none_there n) e = none-some e
+      go (none_there n) e = none_some e
       go (found {r = x} f) e =
           let F = good_fits card S g in
           let W = good_whole card S g in

@@ -10,7 +10,7 @@ use Rattle.paper.specs.Terms.{Term, value}
 use Rattle.paper.specs.Evaluation.{sections, plain, placed}
 use Rattle.paper.specs.States.{Card, State, count}
 use Rattle.paper.specs.Steps.{Change, nothing, new_cell, set_cell, new_lock, taken, released, new_thread, changed, seat}
-use Rattle.laws.specs.Tests.{none-some}
+use Rattle.laws.specs.Tests.{none_some}
 use Rattle.laws.specs.Lists.{All, all_nil, all_cons, all_set, all_append, all_map}
 use Rattle.laws.specs.Seats.{seat_end, all_seat}
 use Rattle.laws.specs.Placed.{plain_more, placed_more, plain_sections, plain_placed}
@@ -27,12 +27,12 @@ total_append l (e ∷ a) b = let h = total_append l a b in omega arith
 
 total_set : (l : ℕ) (es : List Term) (i : ℕ) (e : Term) {e₀ : Term} → get es i ≡ some e₀
     → total l (set es i e) + count l (sections e₀) ≡ total l es + count l (sections e)
-total_set l [] i e h = none-some h
+total_set l [] i e h = none_some h
 total_set l (x ∷ es) zero e {e₀} h = let k : count l (sections x) ≡ count l (sections e₀) = cc in omega arith
 total_set l (x ∷ es) (suc i) e h = let k = total_set l es i e h in omega arith
 
 pub total_get : (l : ℕ) (es : List Term) (i : ℕ) {e : Term} → get es i ≡ some e → count l (sections e) ≤ total l es
-total_get l [] i h = none-some h
+total_get l [] i h = none_some h
 total_get l (x ∷ es) zero {e} h = let k : count l (sections x) ≡ count l (sections e) = cc in omega arith
 total_get l (x ∷ es) (suc i) h = let k = total_get l es i h in omega arith
 

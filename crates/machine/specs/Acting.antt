@@ -8,7 +8,7 @@ use Rattle.paper.specs.Terms.{Term, term_bytes, value, as_cell, as_lock}
 use Rattle.paper.specs.Evaluation.{placed}
 use Rattle.paper.specs.States.{State, Card, Holds, Fits}
 use Rattle.paper.specs.Steps.{move}
-use Rattle.laws.specs.Tests.{none-some, split}
+use Rattle.laws.specs.Tests.{none_some, split}
 use Rattle.laws.specs.Values.{Value, v_unit, v_num, v_fun, v_lock, v_cell, is_value_lem}
 use Rattle.laws.specs.SlotBytes.{placed_small}
 use Rattle.laws.specs.StateBytes.{good_sound}
@@ -42,19 +42,19 @@ pub record Acts (card : Card) (s state : List ℕ) (room : ℕ) (out : List ℕ)
 module _ (cells locks : ℕ) where
   cell_below : {e : Term} {j : ℕ} → Value e → as_cell e ≡ some j → placed cells locks e ≡ true → j < cells
   unfolding placed
-  cell_below v_unit q h = none-some q
-  cell_below v_num q h = none-some q
-  cell_below v_fun q h = none-some q
-  cell_below v_lock q h = none-some q
+  cell_below v_unit q h = none_some q
+  cell_below v_num q h = none_some q
+  cell_below v_fun q h = none_some q
+  cell_below v_lock q h = none_some q
   cell_below {j = j} (v_cell {r = r}) q h = let z : r ≡ j = cc in rw (← z) (ltb-true r cells h)
 
   lock_below : {e : Term} {l : ℕ} → Value e → as_lock e ≡ some l → placed cells locks e ≡ true → l < locks
   unfolding placed
-  lock_below v_unit q h = none-some q
-  lock_below v_num q h = none-some q
-  lock_below v_fun q h = none-some q
+  lock_below v_unit q h = none_some q
+  lock_below v_num q h = none_some q
+  lock_below v_fun q h = none_some q
   lock_below {l = l} (v_lock {l = r}) q h = let z : r ≡ l = cc in rw (← z) (ltb-true r locks h)
-  lock_below v_cell q h = none-some q
+  lock_below v_cell q h = none_some q
 
 -- ---- one law for each code
 

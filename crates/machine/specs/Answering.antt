@@ -16,13 +16,13 @@ use Rattle.machine.specs.DuePart.{Parted}
 abbrev pub case_of : Step → StepCase
 case_of (Made k n) = StepCase.made k n
 case_of BufferShort = StepCase.buffer_short
-case_of NoState = StepCase.noState
-case_of NoSuchThread = StepCase.noSuchThread
-case_of IsFinished = StepCase.isFinished
+case_of NoState = StepCase.no_state
+case_of NoSuchThread = StepCase.no_such_thread
+case_of IsFinished = StepCase.is_finished
 case_of (WaitsFor l) = StepCase.waits_for l
 case_of IsStuck = StepCase.is_stuck
-case_of TooMany = StepCase.tooMany
-case_of TooLong = StepCase.tooLong
+case_of TooMany = StepCase.too_many
+case_of TooLong = StepCase.too_long
 
 -- the answer and the whole buffer are the paper's
 pub record Answers (card : Card) (before : List ℕ) (i : ℕ) (after : List ℕ) (r : Step) : Type 0 where
@@ -32,13 +32,13 @@ pub record Answers (card : Card) (before : List ℕ) (i : ℕ) (after : List ℕ
 step_of : StepCase → Step
 step_of (StepCase.made k n) = Made k n
 step_of StepCase.buffer_short = BufferShort
-step_of StepCase.noState = NoState
-step_of StepCase.noSuchThread = NoSuchThread
-step_of StepCase.isFinished = IsFinished
+step_of StepCase.no_state = NoState
+step_of StepCase.no_such_thread = NoSuchThread
+step_of StepCase.is_finished = IsFinished
 step_of (StepCase.waits_for l) = WaitsFor l
 step_of StepCase.is_stuck = IsStuck
-step_of StepCase.tooMany = TooMany
-step_of StepCase.tooLong = TooLong
+step_of StepCase.too_many = TooMany
+step_of StepCase.too_long = TooLong
 
 back : (r : Step) → step_of (case_of r) ≡ r
 unfolding step_of

@@ -25,14 +25,14 @@ pub answers_foreign : {card : Card} {s : List ℕ} (i : ℕ) → total card ≤ 
 unfolding told
 answers_foreign {card} {s} i h e = record { says = step_foreign card s h e i }
 
-module _ {card : Card} {before after : List ℕ} (w : Held card before) (next : Stepped) (good-next : good card next.state ≡ true) where
+module _ {card : Card} {before after : List ℕ} (w : Held card before) (next : Stepped) (good_next : good card next.state ≡ true) where
   after_held : (b : Bool)
       → after ≡ choose b (λ _. laid (plan card next.state) before) (λ _. before) → Held card after
   after_held true e = record {
     fits = w.fits;
     short = w.short;
     held = next.state;
-    holds = subst (λ s. Holds card s next.state) (sym e) (laid_holds card w.fits before next.state good-next);
+    holds = subst (λ s. Holds card s next.state) (sym e) (laid_holds card w.fits before next.state good_next);
   }
   after_held false e = record { fits = w.fits; short = w.short; held = w.held; holds = subst (λ s. Holds card s w.held) (sym e) w.holds }
 

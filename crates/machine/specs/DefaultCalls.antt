@@ -26,7 +26,7 @@ use Rattle.machine.specs.Lowest.{Lowest, one_can, none_can, StepsLowest}
 abbrev pub case_of : DefaultRun → DefaultCase
 case_of (Ran n) = DefaultCase.ran n
 case_of BufferShort = DefaultCase.buffer_short
-case_of NoState = DefaultCase.noState
+case_of NoState = DefaultCase.no_state
 
 pub record DefaultRuns (card : Card) (before : List ℕ) (limit : ℕ) (after : List ℕ) (r : DefaultRun) : Type 0 where
   pub says : default_call card limit before
@@ -35,7 +35,7 @@ pub record DefaultRuns (card : Card) (before : List ℕ) (limit : ℕ) (after : 
 abbrev run_of : DefaultCase → DefaultRun
 run_of (DefaultCase.ran n) = Ran n
 run_of DefaultCase.buffer_short = BufferShort
-run_of DefaultCase.noState = NoState
+run_of DefaultCase.no_state = NoState
 
 back : (r : DefaultRun) → run_of (case_of r) ≡ r
 back (Ran n) = refl
@@ -115,23 +115,23 @@ module _ {card : Card} {before : List ℕ} {limit : ℕ} where
           go (some m) e (one_can q) =
               let w = g.held in
               let T = m.after in
-              let good-T = good_lowest card w.fits S w.holds.state e in
+              let good_t = good_lowest card w.fits S w.holds.state e in
               let end = default card (limit - (steps + 1)) (steps + 1) T in
-              let good-end = good_default card w.fits (limit - (steps + 1)) (steps + 1) T good-T in
+              let good_end = good_default card w.fits (limit - (steps + 1)) (steps + 1) T good_t in
               let size : (U : State) → good card U ≡ true → length (plan card U) ≡ total card = λ U u. plan_length card U w.fits (good_sound card U u) in
               record {
                 held = record {
                   fits = w.fits;
                   short = w.short;
                   held = T;
-                  holds = subst (λ s. Holds card s T) (sym q) (laid_holds card w.fits state T good-T);
+                  holds = subst (λ s. Holds card s T) (sym q) (laid_holds card w.fits state T good_t);
                 };
                 kept = long ∙ g.kept;
                 few = omega arith;
                 same = g.same ∙ ap (λ n. after_default card state (default card n steps S)) more
                     ∙ ap (after_default card state) (one_step card _ steps S m e ∙ ap (λ n. default card (limit - (steps + 1)) n T) (sym (add-one steps)))
                     ∙ ap (λ x. record { answer = 0; steps = end.steps; state = x })
-                    (sym (laid_laid (plan card end.state) (plan card T) state (size end.state good-end ∙ sym (size T good-T)))
+                    (sym (laid_laid (plan card end.state) (plan card T) state (size end.state good_end ∙ sym (size T good_t)))
                     ∙ ap (laid (plan card end.state)) (sym q));
               }
 

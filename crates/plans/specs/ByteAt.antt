@@ -64,8 +64,8 @@ module _ (card : Card) (S : State) where
         let tb = card.thread_bytes in
         let cb = card.cell_bytes in
         let marks = pad 32 S.marks in
-        let threadLengths = pad 32 (lengths S.threads) in
-        let cellLengths = pad 128 (lengths S.cells) in
+        let thread_lengths = pad 32 (lengths S.threads) in
+        let cell_lengths = pad 128 (lengths S.cells) in
         let unused : List ℕ = replicate 58 0 in
         let threads = pad (card.threads * tb) (slots tb S.threads) in
         let cells = pad (card.cells * cb) (slots cb S.cells) in
@@ -74,12 +74,12 @@ module _ (card : Card) (S : State) where
         let c = pad_length 128 (lengths S.cells) (let x = fits.cells in let y = sound.cells in omega (arith, lengths_length S.cells)) in
         let z : k ≡ k - 0 = omega arith in
         ap (at (plan card S)) z ∙ ap (λ s. at s (k - 0)) plan_right
-        ∙ seam 0 6 (top card S) (marks ++ (threadLengths ++ (cellLengths ++ (unused ++ (threads ++ cells))))) k _ _ refl (omega arith)
+        ∙ seam 0 6 (top card S) (marks ++ (thread_lengths ++ (cell_lengths ++ (unused ++ (threads ++ cells))))) k _ _ refl (omega arith)
         (λ l. ap (at (top card S)) (sym z))
-        (λ l. seam 6 32 marks (threadLengths ++ (cellLengths ++ (unused ++ (threads ++ cells)))) k _ _ a l (λ m. pad_at 32 S.marks (k - 6))
-        (λ l. seam 38 32 threadLengths (cellLengths ++ (unused ++ (threads ++ cells))) k _ _ b l
+        (λ l. seam 6 32 marks (thread_lengths ++ (cell_lengths ++ (unused ++ (threads ++ cells)))) k _ _ a l (λ m. pad_at 32 S.marks (k - 6))
+        (λ l. seam 38 32 thread_lengths (cell_lengths ++ (unused ++ (threads ++ cells))) k _ _ b l
         (λ m. pad_at 32 (lengths S.threads) (k - 38) ∙ lengths_at S.threads (k - 38))
-        (λ l. seam 70 128 cellLengths (unused ++ (threads ++ cells)) k _ _ c l
+        (λ l. seam 70 128 cell_lengths (unused ++ (threads ++ cells)) k _ _ c l
         (λ m. pad_at 128 (lengths S.cells) (k - 70) ∙ lengths_at S.cells (k - 70))
         (λ l. seam 198 58 unused (threads ++ cells) k _ _ refl l (λ m. zeros_at 58 (k - 198))
         (λ l. seam 256 (card.threads * tb) threads cells k _ _ (part_length tb card.threads sound.thread sound.threads) l

@@ -9,7 +9,7 @@ use Rattle.paper.specs.Evaluation.{plain, placed}
 use Rattle.paper.specs.States.{Card, State, good}
 use Rattle.paper.specs.Steps.{Change, Move, finished, waits, stuck, full, long, goes, in_place, new_place, move}
 use Rattle.paper.specs.Steps.{new_thread, eval, or_stuck, forks}
-use Rattle.laws.specs.Tests.{none-some, split, split₃}
+use Rattle.laws.specs.Tests.{none_some, split, split₃}
 use Rattle.laws.specs.Lists.{all_get}
 use Rattle.laws.specs.Values.{Value, v_unit, v_num, v_fun, v_lock, v_cell, is_value_lem}
 use Rattle.laws.specs.Seats.{new_place_lem}
@@ -48,19 +48,19 @@ when none f = no_move
 module _ (cells locks : ℕ) where
   cell_below : {e : Term} {j : ℕ} → Value e → as_cell e ≡ some j → plain cells locks 0 e ≡ true → j < cells
   unfolding plain
-  cell_below v_unit q h = none-some q
-  cell_below v_num q h = none-some q
-  cell_below v_fun q h = none-some q
-  cell_below v_lock q h = none-some q
+  cell_below v_unit q h = none_some q
+  cell_below v_num q h = none_some q
+  cell_below v_fun q h = none_some q
+  cell_below v_lock q h = none_some q
   cell_below {j = j} (v_cell {r = r}) q h = let z : r ≡ j = cc in rw (← z) (ltb-true r cells h)
 
   lock_below : {e : Term} {l : ℕ} → Value e → as_lock e ≡ some l → placed cells locks e ≡ true → l < locks
   unfolding placed
-  lock_below v_unit q h = none-some q
-  lock_below v_num q h = none-some q
-  lock_below v_fun q h = none-some q
+  lock_below v_unit q h = none_some q
+  lock_below v_num q h = none_some q
+  lock_below v_fun q h = none_some q
   lock_below {l = l} (v_lock {l = r}) q h = let z : r ≡ l = cc in rw (← z) (ltb-true r locks h)
-  lock_below v_cell q h = none-some q
+  lock_below v_cell q h = none_some q
 
 module _ (card : Card) (S : State) where
   abbrev C : ℕ

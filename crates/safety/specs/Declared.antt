@@ -11,7 +11,7 @@ use Rattle.paper.specs.Types.{Ty, Subtype, equal, functions, raise, lower}
 use Rattle.paper.specs.Expressions.{Exp}
 use Rattle.paper.specs.Rules.{Gives}
 use Rattle.paper.specs.Terms.{erase}
-use Rattle.laws.specs.Tests.{not_both, none-some}
+use Rattle.laws.specs.Tests.{not_both, none_some}
 use Rattle.laws.specs.Lists.{All, all_cons, get_get_d}
 use Rattle.laws.specs.SetLaws.{has_one, one_has, has_below, union_left, union_right, has_less, has_single, single_has, empty_has, within_has, lowered_has, union_lt, less_lt, single_lt}
 use Rattle.laws.specs.Subtypes.{is_subtype}
@@ -54,7 +54,7 @@ form_below n h a b (equal {t = t}) = sub_refl (form t)
 form_below n h a b (functions {p = p} {q = q} x i y) = s_fun (form_below n h b.0 a.0 x) (within_members n p q h a.1 i) (form_below n h a.2 b.2 y)
 
 get_form : (Γ : List Ty) (k : ℕ) {t : Ty} → get Γ k ≡ some t → get (map form Γ) k ≡ some (form t)
-get_form [] k e = none-some e
+get_form [] k e = none_some e
 get_form (s ∷ Γ) zero {t} e = cc
 get_form (s ∷ Γ) (suc k) e = get_form Γ k e
 

@@ -12,7 +12,7 @@ use Rattle.paper.specs.Terms.{erase, term_bytes}
 use Rattle.paper.specs.Evaluation.{sections}
 use Rattle.paper.specs.States.{Card, State, count}
 use Rattle.paper.specs.Loads.{start, raw, judged}
-use Rattle.laws.specs.Tests.{none-some}
+use Rattle.laws.specs.Tests.{none_some}
 use Rattle.laws.specs.Lists.{all_nil, all_cons}
 use Rattle.laws.specs.Scope.{ExpIn, Bytewise}
 use Rattle.laws.specs.Images.{image_at}
@@ -54,7 +54,7 @@ module _ (card : Card) (s : List ℕ) (S : State) (bytes : Bytes s) where
 
 first_typed : (e : Exp) {t : Ty} → ExpIn 0 0 e → Gives Small [] e t empty → TypedIn 0 [] (first e)
 first_typed e {t} h d = record {
-  store = record { marks_len = refl; cells_len = refl; cell = λ r c q. none-some q; guarded = λ r c q. none-some q };
+  store = record { marks_len = refl; cells_len = refl; cell = λ r c q. none_some q; guarded = λ r c q. none_some q };
   threads = all_cons (form t, declared (top 0 []) 0 [] (omega arith) all_nil h d (cov_none [])) all_nil;
 }
 

@@ -7,7 +7,7 @@ use Rattle.std.proofs.lemmas.List.{length-map}
 use Rattle.paper.specs.Terms.{Term}
 use Rattle.paper.specs.Evaluation.{touches, sections}
 use Rattle.paper.specs.States.{Card, State, Fits, count}
-use Rattle.laws.specs.Tests.{none-some}
+use Rattle.laws.specs.Tests.{none_some}
 use Rattle.laws.specs.Lists.{all_get, get_lt, get_below}
 use Rattle.laws.specs.StateBytes.{plan_state}
 use Rattle.laws.specs.Whole.{Whole, total, bit_at}
@@ -26,13 +26,13 @@ abbrev pub locks_of : List Slot → List ℕ
 locks_of Σ = map (λ c. c.lock) Σ
 
 lock_at_lem : (Σ : List Slot) (r : ℕ) {c : Slot} → get Σ r ≡ some c → get_or (locks_of Σ) r 0 ≡ c.lock
-lock_at_lem [] r e = none-some e
+lock_at_lem [] r e = none_some e
 lock_at_lem (b ∷ Σ) zero {c} e = cc
 lock_at_lem (b ∷ Σ) (suc r) e = lock_at_lem Σ r e
 
 no_touch : {c : ℕ} → touches Term.unit ≡ some c → ⊥
 unfolding touches
-no_touch e = none-some e
+no_touch e = none_some e
 
 module _ (card : Card) {S : State} {n : ℕ} {Σ : List Slot} (W : Whole S) (T : TypedIn n Σ S) where
   guard : (i c : ℕ) → touches (thread S i) ≡ some c → Guarded Σ [] (sections (thread S i)) c

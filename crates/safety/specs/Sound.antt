@@ -12,7 +12,7 @@ use Rattle.paper.specs.Terms.{Term, put, value, term_bytes}
 use Rattle.paper.specs.States.{Card, State}
 use Rattle.paper.specs.Steps.{Change, nothing, new_cell, set_cell, new_lock, taken, released, new_thread, Move, finished, waits, full, long, goes}
 use Rattle.paper.specs.Steps.{new_place, in_place, eval, applies, reads, writes, forks, takes, adds, branches, move}
-use Rattle.laws.specs.Tests.{none-some, not_both}
+use Rattle.laws.specs.Tests.{none_some, not_both}
 use Rattle.laws.specs.Lists.{get_end, get_d_get}
 use Rattle.safety.specs.Names.{Subset, SubsetBy, in_map_from, in_cast}
 use Rattle.safety.specs.Forms.{Form, ren, into, ren_into, ren_id, Sub, s_lock, s_ref, s_fun, sub_refl}
@@ -213,7 +213,7 @@ module _ (card : Card) (S : State) (n : ℕ) (Σ : List Slot) (ok : StoreOk S.ma
   unfolding move
   sound (t_unit w) = safe_done v_unit
   sound (t_num w) = safe_done v_num
-  sound (t_var {k = k} h w) = none-some h
+  sound (t_var {k = k} h w) = none_some h
   sound (t_fun d w) = safe_done v_fun
   sound (t_app {a = a} {b = b} d w f) =
       frame (λ x. Term.app x b) (λ n' Σ' a' m d'. t_app d' w (weaken f m)) (λ _ y.

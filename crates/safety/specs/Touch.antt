@@ -12,7 +12,7 @@ use Rattle.paper.specs.Base.{choose}
 use Rattle.paper.specs.Terms.{Term, value, as_cell}
 use Rattle.paper.specs.Evaluation.{touches, sections}
 use Rattle.paper.specs.States.{count}
-use Rattle.laws.specs.Tests.{none-some}
+use Rattle.laws.specs.Tests.{none_some}
 use Rattle.laws.specs.Lists.{get_same}
 use Rattle.safety.specs.Names.{In, here, there, in_cast}
 use Rattle.safety.specs.Forms.{Form, s_ref}
@@ -33,10 +33,10 @@ pub record Guarded (Σ : List Slot) (p : List ℕ) (s : List ℕ) (r : ℕ) : Ty
 module _ {Σ : List Slot} where
   by_value : {n : ℕ} {p : List ℕ} {m : ℕ} {s : Form} {a : Term} (q : List ℕ) (r : ℕ) → Value a → Closed n Σ p a (Form.ref m s)
       → In m p → as_cell a ≡ some r → Guarded Σ p q r
-  by_value q r v_unit d j e = none-some e
-  by_value q r v_num d j e = none-some e
-  by_value q r v_fun d j e = none-some e
-  by_value q r v_lock d j e = none-some e
+  by_value q r v_unit d j e = none_some e
+  by_value q r v_num d j e = none_some e
+  by_value q r v_fun d j e = none_some e
+  by_value q r v_lock d j e = none_some e
   by_value q r (v_cell {r = r'}) (t_cell_at {c = c} h (s_ref f g)) j e = record { slot = c; found = get_same Σ r' r h e; holds = inl (in_cast f j) }
 
   -- along the part where evaluation goes
@@ -68,10 +68,10 @@ module _ {Σ : List Slot} where
 
   pub touching : {n : ℕ} {p : List ℕ} {e : Term} {t : Form} → Closed n Σ p e t → (r : ℕ) → touches e ≡ some r → Guarded Σ p (sections e) r
   unfolding touches sections
-  touching (t_unit w) r e = none-some e
-  touching (t_num w) r e = none-some e
-  touching (t_var h w) r e = none-some e
-  touching (t_fun d w) r e = none-some e
+  touching (t_unit w) r e = none_some e
+  touching (t_num w) r e = none_some e
+  touching (t_var h w) r e = none_some e
+  touching (t_fun d w) r e = none_some e
   touching (t_app {a = a} d w f) r e = two r (value a) (λ z. touching f r z) (λ z. touching d r z) e
   touching (t_cell h d w) r e = touching d r e
   touching (t_read {a = a} d j w) r e = last r a (λ y. by_value (sections a) r y d j) (λ z. touching d r z) e
@@ -81,13 +81,13 @@ module _ {Σ : List Slot} where
           → (x : Bool) → value a ≡ x → choose x (λ _. choose (value b) (λ _. as_cell a) (λ _. touches b)) (λ _. touches a) ≡ some r → Guarded Σ p (choose x (λ _. sections b) (λ _. sections a)) r
       both g h true q z = last r b (λ y. by_value (sections b) r (is_value_lem a q) d j) h z
       both g h false q z = g z
-  touching (t_fork d w) r e = none-some e
-  touching (t_newlock d) r e = none-some e
+  touching (t_fork d w) r e = none_some e
+  touching (t_newlock d) r e = none_some e
   touching (t_sync d f) r e = touching d r e
   touching (t_bind d f) r e = touching d r e
   touching (t_seq d f) r e = touching d r e
   touching (t_add {a = a} d f w) r e = two r (value a) (λ z. touching f r z) (λ z. touching d r z) e
   touching (t_cond d f g) r e = touching d r e
-  touching (t_lock_at h w) r e = none-some e
-  touching (t_cell_at h w) r e = none-some e
+  touching (t_lock_at h w) r e = none_some e
+  touching (t_cell_at h w) r e = none_some e
   touching (t_inside {l = l} h d) r e = opened l r (touching d r e)

@@ -14,7 +14,7 @@ use Rattle.paper.specs.States.{State, sixteen, Holds}
 use Rattle.paper.specs.Runs.{race, Race as FirstPair}
 use Rattle.paper.specs.Calls.{race_call}
 use Rattle.paper.specs.Cases.{RaceCase, told_race}
-use Rattle.laws.specs.Tests.{none-some}
+use Rattle.laws.specs.Tests.{none_some}
 use Rattle.laws.specs.StateBytes.{state_holds}
 use Rattle.laws.specs.Good.{good_fits}
 use Rattle.laws.specs.Cards.{sixteen_fits, sixteen_total}
@@ -38,7 +38,7 @@ abbrev pub case_of : Race → RaceCase
 case_of (Between i j c) = RaceCase.between i j c
 case_of NoRace = RaceCase.no_race
 case_of BufferShort = RaceCase.buffer_short
-case_of NoState = RaceCase.noState
+case_of NoState = RaceCase.no_state
 
 pub record Raced (s : List ℕ) (r : Race) : Type 0 where
   pub says : told_race (case_of r) ≡ race_call sixteen s
@@ -47,7 +47,7 @@ abbrev race_of : RaceCase → Race
 race_of (RaceCase.between i j c) = Between i j c
 race_of RaceCase.no_race = NoRace
 race_of RaceCase.buffer_short = BufferShort
-race_of RaceCase.noState = NoState
+race_of RaceCase.no_state = NoState
 
 case_back : (r : Race) → race_of (case_of r) ≡ r
 case_back (Between i j c) = refl
@@ -62,17 +62,17 @@ raced_one {r = r} {r' = r'} a b =
 
 -- ---- the first pair, by what the threads' terms touch
 
-module _ (t : ℕ → ℕ) (es : List Term) (aim-is : (i : ℕ) → i < length es → t i ≡ aim_number (touches (get_or es i Term.unit))) where
+module _ (t : ℕ → ℕ) (es : List Term) (aim_is : (i : ℕ) → i < length es → t i ≡ aim_number (touches (get_or es i Term.unit))) where
   touched : (i c : ℕ) → i < length es → t i ≡ suc c → touches (get_or es i Term.unit) ≡ some c
-  touched i c h e = aim_cell (touches (get_or es i Term.unit)) c (sym (aim-is i h) ∙ e)
+  touched i c h e = aim_cell (touches (get_or es i Term.unit)) c (sym (aim_is i h) ∙ e)
 
   aimed : (i c : ℕ) → touches (get_or es i Term.unit) ≡ some c → (i < length es) × (t i ≡ suc c)
   unfolding touches aim_number
   aimed i c e = go (side i (length es))
     where
       go : (i < length es) ⊎ (length es ≤ i) → (i < length es) × (t i ≡ suc c)
-      go (inl h) = (h, aim-is i h ∙ ap aim_number e)
-      go (inr h) = none-some (ap touches (sym (get_or-eq_default es Term.unit h)) ∙ e)
+      go (inl h) = (h, aim_is i h ∙ ap aim_number e)
+      go (inr h) = none_some (ap touches (sym (get_or-eq_default es Term.unit h)) ∙ e)
 
   hit_pair : (p q c : ℕ) → p < q → q < length es → Hit t p q → t p ≡ suc c → Pair es p q c
   hit_pair p q c l m h e = record { order = l; left = touched p c (omega arith) e; right = touched q c m (h.same ∙ e) }

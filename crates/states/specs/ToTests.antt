@@ -86,7 +86,7 @@ module _ (from size lens room nl nc : ℕ) (s m : List ℕ) where
       tests t ts h r (suc j) l =
           let z : i + suc j ≡ suc i + j = omega arith in ap (λ (k : ℕ). thread_test room nl nc (Text k) (After k)) z ∙ r.tests j (omega arith)
 
-module _ (card : Card) (fits : Fits card) (room : ℕ) (long-threads : card.thread_bytes ≤ room) (long-cells : card.cell_bytes ≤ room) (s : List ℕ) (S : State)
+module _ (card : Card) (fits : Fits card) (room : ℕ) (long_threads : card.thread_bytes ≤ room) (long_cells : card.cell_bytes ≤ room) (s : List ℕ) (S : State)
     (holds : Holds card s S) where
   abbrev nt : ℕ
   nt = length S.threads

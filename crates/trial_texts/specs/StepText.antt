@@ -15,7 +15,7 @@ use Rattle.trial_texts.specs.Lines.{race_line, three_length}
 use Rattle.laws.specs.Cards.{sixteen_fits}
 use Rattle.laws.specs.Touched.{race_small}
 use Rattle.machine.specs.declared.step.Step.{Step}
-use Rattle.machine.specs.declared.step.Step.TheVariants.{Made as Made-step}
+use Rattle.machine.specs.declared.step.Step.TheVariants.{Made as Made_step}
 use Rattle.machine.specs.Public.{Steps}
 use Rattle.trial_texts.specs.Bench.{Bench, Beyond, beyond_same, NotMade, Moved, step_made, step_unmade, race_between, race_none, race_long, race_state}
 use Rattle.states.specs.declared.races.Race.{Race as Found}
@@ -93,7 +93,7 @@ pub record Tries (pick : State → Option Made) (s out : List ℕ) (at : ℕ) (s
   pub tells : (S : State) → Bench s S → Told S s' out out' at (pick S) made found end
   pub beyond : Beyond s s'
 
-pub made_by : {s s' : List ℕ} {i k n : ℕ} {r : Step} → Steps s i s' r → r ≡ Made-step k n → Steps s i s' (Made-step k n)
+pub made_by : {s s' : List ℕ} {i k n : ℕ} {r : Step} → Steps s i s' r → r ≡ Made_step k n → Steps s i s' (Made_step k n)
 made_by {s} {s'} {i} a e = subst (Steps s i s') e a
 
 module _ {s out : List ℕ} {at i : ℕ} {s' : List ℕ} (w : Ready 23 s out at) where
@@ -107,7 +107,7 @@ module _ {s out : List ℕ} {at i : ℕ} {s' : List ℕ} (w : Ready 23 s out at)
   }
 
   -- a step: its line, and the race's
-  module _ {k n : ℕ} (a : Steps s i s' (Made-step k n)) where
+  module _ {k n : ℕ} (a : Steps s i s' (Made_step k n)) where
     abbrev made_in : State → Made
     made_in T = record { thread = i; kind = k; number = n; after = T }
 

@@ -30,11 +30,11 @@ set_at n s at =
 
 -- what the byte at a place is the code of
 pub data Tag : Type 0 where
-  ended other is_unit isInt isLock isRef isFun : Tag
+  ended other is_unit is_int is_lock is_ref is_fun : Tag
 
 unfoldable pub tag_of : ℕ → Tag
 tag_of b =
-    pick (eqb b 32) is_unit (pick (eqb b 33) isInt (pick (eqb b 34) isLock (pick (eqb b 35) isRef (pick (eqb b 36) isFun other))))
+    pick (eqb b 32) is_unit (pick (eqb b 33) is_int (pick (eqb b 34) is_lock (pick (eqb b 35) is_ref (pick (eqb b 36) is_fun other))))
 
 unfoldable pub tag_at : List ℕ → ℕ → Tag
 tag_at s at = pick (ltb at (length s)) (tag_of (get_or s at 0)) ended
@@ -44,20 +44,20 @@ unfoldable pub too_deep : Tag → List ℕ → ℕ → Read Ty
 too_deep ended s at = wrong 5 (length s)
 too_deep other s at = wrong 4 at
 too_deep is_unit s at = wrong 7 at
-too_deep isInt s at = wrong 7 at
-too_deep isLock s at = wrong 7 at
-too_deep isRef s at = wrong 7 at
-too_deep isFun s at = wrong 7 at
+too_deep is_int s at = wrong 7 at
+too_deep is_lock s at = wrong 7 at
+too_deep is_ref s at = wrong 7 at
+too_deep is_fun s at = wrong 7 at
 
 -- a type by its code, where `part` reads a type one deeper
 unfoldable pub ty_as : Tag → (ℕ → Read Ty) → ℕ → List ℕ → ℕ → Read Ty
 ty_as ended part n s at = wrong 5 (length s)
 ty_as other part n s at = wrong 4 at
 ty_as is_unit part n s at = got unit (at + 1)
-ty_as isInt part n s at = got int (at + 1)
-ty_as isLock part n s at = name_at n s (at + 1) then λ k p. got (lock k) p
-ty_as isRef part n s at = name_at n s (at + 1) then λ k p. part p then λ t q. got (ref k t) q
-ty_as isFun part n s at = part (at + 1) then λ a p. set_at n s p then λ m q. part q then λ b r. got (fun a m b) r
+ty_as is_int part n s at = got int (at + 1)
+ty_as is_lock part n s at = name_at n s (at + 1) then λ k p. got (lock k) p
+ty_as is_ref part n s at = name_at n s (at + 1) then λ k p. part p then λ t q. got (ref k t) q
+ty_as is_fun part n s at = part (at + 1) then λ a p. set_at n s p then λ m q. part q then λ b r. got (fun a m b) r
 
 -- the type at `at`, with n locks in scope and `left` of the nesting left
 unfoldable pub ty_at : ℕ → ℕ → List ℕ → ℕ → Read Ty

@@ -16,9 +16,9 @@ pub record Cleared (size : ℕ) (s : List ℕ) : Type 0 where
   pub zero : (k : ℕ) → k < size → get_or s k 0 ≡ 0
   pub rest : (k : ℕ) → size ≤ k → k < length s → get_or s k 0 ≡ 165
 
-pub record AsDue (verdict due : Verdict) (types dueTypes work : List ℕ) : Type 0 where
+pub record AsDue (verdict due : Verdict) (types due_types work : List ℕ) : Type 0 where
   pub answer : verdict ≡ due
-  pub types_due : types ≡ dueTypes
+  pub types_due : types ≡ due_types
   pub work_due : Cleared 40960 work
 
 pub record LoadAsDue (verdict due : Verdict) (kept : List ℕ) : Type 0 where

@@ -61,6 +61,6 @@ abbrev pub text_row : Text → Row
 text_row (Written n) = row_of done 1 n 0 0
 text_row ShortBuffer = row_of short_buffer 0 0 0 0
 
-pub record RowAsDue (row due : Row) (buffer dueBuffer : List ℕ) : Type 0 where
+pub record RowAsDue (row due : Row) (buffer due_buffer : List ℕ) : Type 0 where
   pub answer : row ≡ due
-  pub buffer_due : buffer ≡ dueBuffer
+  pub buffer_due : buffer ≡ due_buffer

@@ -17,8 +17,8 @@ unfolding digits
 digits_next t n r h = rw (le-ltb n 10 h)
 
 -- a number is below ten or not
-below-ten {ℓ} : {X : Type ℓ} (n : ℕ) → (n < 10 → X) → (10 ≤ n → X) → X
-below-ten {X = X} n f g = by (ltb n 10) refl
+below_ten {ℓ} : {X : Type ℓ} (n : ℕ) → (n < 10 → X) → (10 ≤ n → X) → X
+below_ten {X = X} n f g = by (ltb n 10) refl
   where
     by : (b : Bool) → ltb n 10 ≡ b → X
     by true e = f (ltb-true n 10 e)
@@ -29,14 +29,14 @@ digits_before : (t n : ℕ) (r x : List ℕ) → digits t n (r ++ x) ≡ digits 
 unfolding digits
 digits_before zero n r x = refl
 digits_before (suc t) n r x =
-    below-ten n (λ h. rw (lt-ltb n 10 h)) (λ h. rw (le-ltb n 10 h) (digits_before t (n / 10) ((48 + n % 10) ∷ r) x))
+    below_ten n (λ h. rw (lt-ltb n 10 h)) (λ h. rw (le-ltb n 10 h) (digits_before t (n / 10) ((48 + n % 10) ∷ r) x))
 
 -- more turns than the number asks for change nothing
 digits_enough : (t u n : ℕ) (r : List ℕ) → n < t → n < u → digits t n r ≡ digits u n r
 digits_enough zero u n r h k = absurd (omega arith)
 digits_enough (suc t) zero n r h k = absurd (omega arith)
 digits_enough (suc t) (suc u) n r h k =
-    below-ten n (λ l. rw (digits_last t n r l, digits_last u n r l))
+    below_ten n (λ l. rw (digits_last t n r l, digits_last u n r l))
     (λ l. rw (digits_next t n r l, digits_next u n r l) (digits_enough t u (n / 10) ((48 + n % 10) ∷ r) (omega arith) (omega arith)))
 
 pub decimal_one : (n : ℕ) → n < 10 → decimal n ≡ (48 + n % 10) ∷ []
@@ -55,7 +55,7 @@ decimal_more n h =
 pub decimal_length : (k n : ℕ) → n < 10 ^ suc k → length (decimal n) ≤ suc k
 decimal_length zero n h = let e = ap length (decimal_one n h) in omega arith
 decimal_length (suc k) n h =
-    below-ten n (λ l. let e = ap length (decimal_one n l) in omega arith) λ l.
+    below_ten n (λ l. let e = ap length (decimal_one n l) in omega arith) λ l.
     let p = pow-suc 10 (suc k) in
     let i = decimal_length k (n / 10) (omega arith) in
     let e = ap length (decimal_more n l) in

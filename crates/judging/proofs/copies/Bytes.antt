@@ -85,13 +85,13 @@ module _ (s : List ℕ) (small : (i : ℕ) → get_or s i 0 < 256) where
   whole t h = spells_drop s (ty_bytes t) 0 (spelt t 0 h) ∙ ap (λ (n : ℕ). ty_bytes t ++ drop n s) (let e : 0 + length (ty_bytes t) ≡ ty_size t = omega (arith, bytes_length t) in e)
 
 -- a type copied to the front of another buffer
-module _ (s w w' : List ℕ) (at p : ℕ) (small-s : (i : ℕ) → get_or s i 0 < 256) (small-w : (i : ℕ) → get_or w i 0 < 256) (c : Copied s at (p - at) w w' 0) where
+module _ (s w w' : List ℕ) (at p : ℕ) (small_s : (i : ℕ) → get_or s i 0 < 256) (small_w : (i : ℕ) → get_or w i 0 < 256) (c : Copied s at (p - at) w w' 0) where
   small' : (i : ℕ) → get_or w' i 0 < 256
   small' i = go (ltb i (p - at)) refl
     where
       go : (b : Bool) → ltb i (p - at) ≡ b → get_or w' i 0 < 256
-      go true e = subst (λ (j : ℕ). get_or w' j 0 < 256) (zero-add i) (subst (λ (z : ℕ). z < 256) (sym (c.same i (ltb-true i (p - at) e))) (small-s (at + i)))
-      go false e = subst (λ (z : ℕ). z < 256) (sym (c.kept.high i (let h : p - at ≤ i = ltb-false i (p - at) e in omega arith))) (small-w i)
+      go true e = subst (λ (j : ℕ). get_or w' j 0 < 256) (zero-add i) (subst (λ (z : ℕ). z < 256) (sym (c.same i (ltb-true i (p - at) e))) (small_s (at + i)))
+      go false e = subst (λ (z : ℕ). z < 256) (sym (c.kept.high i (let h : p - at ≤ i = ltb-false i (p - at) e in omega arith))) (small_w i)
 
   pub given : Givable s at w → Ends s at p → Given s at w w' (p - at)
   unfolding laid

@@ -5,7 +5,7 @@ use Prim.Native.Nat.{ℕ, ◌+◌, ◌-◌, ◌*◌, ◌^◌, ◌≤◌, ◌<◌
 use native.Mathlib.Omega.{arith}
 use native.Mathlib.Numerals.{add-one}
 use Rattle.paper.specs.Base.{word32}
-use Rattle.paper.specs.Sets.{raised as raisedSet}
+use Rattle.paper.specs.Sets.{raised as raised_set}
 use Rattle.paper.specs.Types.{raise, Ty, unit, int, lock, ref, fun, ty_size}
 use native.Mathlib.Nat.{add-zero, add_assoc, mul-one, mul_assoc, mul-lt-mul_of_pos_right, lt_of_lt_of_le}
 use lib.Pow.{pow_pos, pow_mono, pow-add}
@@ -173,7 +173,7 @@ raised_raised j k (fun a m b) = rw (raised_raised j k a, raised_raised j k b, mu
 
 -- raising by one is the paper's raising
 pub raise_is : (t : Ty) → raise t ≡ raised 1 t
-unfolding raised raise raisedSet
+unfolding raised raise raised_set
 raise_is unit = refl
 raise_is int = refl
 raise_is (lock a) = rw (add-one a)

@@ -27,14 +27,14 @@ pub record Accepts (image types : List ℕ) (n : ℕ) : Type 0 where
   pub inside : n ≤ length types
   pub line : judge_text image ≡ accept_line (take n types)
 
-module _ (image types work types' : List ℕ) (type_room : 256 ≤ length types) (work-room : 40960 ≤ length work) where
+module _ (image types work types' : List ℕ) (type_room : 256 ≤ length types) (work_room : 40960 ≤ length work) where
   call_ok : (t : Ty) → verdict image ≡ ok t → judge_call image types work ≡ record { says = ok (ty_size t); types = laid (ty_bytes t) types; work = zeroed work }
   unfolding judge_call type_bytes work_bytes
-  call_ok t q = rw (le-ltb (length types) 256 type_room, le-ltb (length work) 40960 work-room, q, judge_call)
+  call_ok t q = rw (le-ltb (length types) 256 type_room, le-ltb (length work) 40960 work_room, q, judge_call)
 
   call_refused : (n p : ℕ) → verdict image ≡ refused n p → judge_call image types work ≡ record { says = refused n p; types = types; work = zeroed work }
   unfolding judge_call type_bytes work_bytes
-  call_refused n p q = rw (le-ltb (length types) 256 type_room, le-ltb (length work) 40960 work-room, q, judge_call)
+  call_refused n p q = rw (le-ltb (length types) 256 type_room, le-ltb (length work) 40960 work_room, q, judge_call)
 
   accepts_by : (n : ℕ) → ok n ≡ (judge_call image types work).says → types' ≡ (judge_call image types work).types → (o : Out Ty) → verdict image ≡ o → Accepts image types' n
   unfolding judge_text laid
@@ -59,25 +59,25 @@ module _ (image types work types' : List ℕ) (type_room : 256 ≤ length types)
       let y : i ≡ p = cc in
       rw (q, refuse_line_lem k i, z, y)
 
-module _ {image types work types' work' : List ℕ} {r : Verdict} (j : Judges image types work r types' work') (type_room : 256 ≤ length types) (work-room : 40960 ≤ length work) where
+module _ {image types work types' work' : List ℕ} {r : Verdict} (j : Judges image types work r types' work') (type_room : 256 ≤ length types) (work_room : 40960 ≤ length work) where
   pub accepts : (n : ℕ) → r ≡ Accepted n → Accepts image types' n
-  accepts n e = accepts_by image types work types' type_room work-room n (ap said (sym e) ∙ j.says) j.types (verdict image) refl
+  accepts n e = accepts_by image types work types' type_room work_room n (ap said (sym e) ∙ j.says) j.types (verdict image) refl
 
   pub refuses : (n p : ℕ) → r ≡ Refused n p → judge_text image ≡ refuse_line n p
-  refuses n p e = refuses_by image types work types' type_room work-room n p (ap said (sym e) ∙ j.says) (verdict image) refl
+  refuses n p e = refuses_by image types work types' type_room work_room n p (ap said (sym e) ∙ j.says) (verdict image) refl
 
   clears : work' ≡ zeroed work
   clears = j.work ∙ by (verdict image) refl
     where
       by : (o : Out Ty) → verdict image ≡ o → (judge_call image types work).work ≡ zeroed work
-      by (ok t) q = let c = call_ok image types work types' type_room work-room t q in cc
-      by (refused k p) q = let c = call_refused image types work types' type_room work-room k p q in cc
+      by (ok t) q = let c = call_ok image types work types' type_room work_room t q in cc
+      by (refused k p) q = let c = call_refused image types work types' type_room work_room k p q in cc
 
   -- ---- the line of each answer
 
-  module _ {out out' : List ℕ} {end : ℕ} (out-room : 520 ≤ length out) where
+  module _ {out out' : List ℕ} {end : ℕ} (out_room : 520 ≤ length out) where
     by_line : {b : List ℕ} → judge_text image ≡ b → Filled b out out' end → JudgeTexts image work out (Written end) work' out'
-    by_line e w = text_written image work out work-room out-room clears (rw e w)
+    by_line e w = text_written image work out work_room out_room clears (rw e w)
 
     pub accepted : {n : ℕ} → r ≡ Accepted n → Filled (accept_line (take n types')) out out' end → JudgeTexts image work out (Written end) work' out'
     accepted {n} e w = by_line (accepts n e).line w

@@ -8,7 +8,7 @@ use native.Mathlib.Omega.{arith}
 use lib.Dec.{ltb, leb, eqb}
 use lib.ListN.{length, get_or}
 use borrow.Author.Tests.{ltb-true, leb-true, eqb-true, le-ltb}
-use Rattle.laws.specs.Tests.{split, none-some}
+use Rattle.laws.specs.Tests.{split, none_some}
 use Rattle.paper.specs.Base.{choose, word32}
 use Rattle.paper.specs.Types.{Way, same, turned, sets_related}
 use Rattle.types.specs.Subtype.{Part, same_byte, sets_at, after, result_at, type_at, related_at}
@@ -48,7 +48,7 @@ module _ (x y : List ℕ) where
   Room i j o = (p : ℕ) → o ≡ some p → (i < p) × (p ≤ length x) × (j + (p - i) ≤ length y)
 
   no_room : (i j : ℕ) → Room i j none
-  no_room i j p e = none-some e
+  no_room i j p e = none_some e
 
   some_room : (i j p : ℕ) → (i < p) × (p ≤ length x) × (j + (p - i) ≤ length y) → Room i j (some p)
   some_room i j p h q e = let z : p ≡ q = cc in rw (← z) h
