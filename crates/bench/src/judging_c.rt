@@ -17,8 +17,7 @@ fn pack(verdict: Verdict) -> u64
     }
 }
 
-#[unsafe(no_mangle)]
-pub extern "C" fn laverockin_judge(image: &[u8], types: &mut [u8], work: &mut [u8]) -> u64
+pub fn laverockin_judge(image: &[u8], types: &mut [u8], work: &mut [u8]) -> u64
     ensures { JudgesC image.now types.old work.old result types.new work.new }
 {
     let verdict = judging::entry::judge(image, types, work);

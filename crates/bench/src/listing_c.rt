@@ -3,8 +3,7 @@ ghost use Rattle.bench.specs.Listing.{ListsC};
 
 use lister::Item;
 
-#[unsafe(no_mangle)]
-pub extern "C" fn laverockin_next(
+pub fn laverockin_next(
     image: &[u8],
     at: usize,
     code: &mut u64,

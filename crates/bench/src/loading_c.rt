@@ -17,16 +17,14 @@ fn pack(loaded: Loaded) -> u64
     }
 }
 
-#[unsafe(no_mangle)]
-pub extern "C" fn laverockin_raw_load(image: &[u8], state: &mut [u8]) -> u64
+pub fn laverockin_raw_load(image: &[u8], state: &mut [u8]) -> u64
     ensures { RawLoadsC image.now state.old result state.new }
 {
     let loaded = loads::entry::raw_load(image, state);
     pack(loaded)
 }
 
-#[unsafe(no_mangle)]
-pub extern "C" fn laverockin_judged_load(image: &[u8], state: &mut [u8], work: &mut [u8]) -> u64
+pub fn laverockin_judged_load(image: &[u8], state: &mut [u8], work: &mut [u8]) -> u64
     ensures { JudgedLoadsC image.now state.old work.old result state.new work.new }
 {
     let loaded = loads::entry::judged_load(image, state, work);

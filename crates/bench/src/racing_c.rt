@@ -23,8 +23,7 @@ fn pack(race: Race) -> u64
     }
 }
 
-#[unsafe(no_mangle)]
-pub extern "C" fn laverockin_race(state: &[u8]) -> u64
+pub fn laverockin_race(state: &[u8]) -> u64
     ensures { RacesC state.now result }
 {
     let race = states::race(state);

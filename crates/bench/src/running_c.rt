@@ -3,8 +3,7 @@ ghost use Rattle.bench.specs.Running.{RunsC, DefaultRunsC};
 
 use machine::default_run::DefaultRun;
 
-#[unsafe(no_mangle)]
-pub extern "C" fn laverockin_run(state: &mut [u8], schedule: &[u8], steps: &mut u64, last: &mut u64)
+pub fn laverockin_run(state: &mut [u8], schedule: &[u8], steps: &mut u64, last: &mut u64)
     ensures { RunsC state.old schedule.now state.new steps.new last.new }
 {
     let ran = machine::run::run(state, schedule);
@@ -12,8 +11,7 @@ pub extern "C" fn laverockin_run(state: &mut [u8], schedule: &[u8], steps: &mut 
     *last = ran.last as u64;
 }
 
-#[unsafe(no_mangle)]
-pub extern "C" fn laverockin_default_run(state: &mut [u8], limit: u64, steps: &mut u64) -> u64
+pub fn laverockin_default_run(state: &mut [u8], limit: u64, steps: &mut u64) -> u64
     ensures { DefaultRunsC state.old limit state.new steps.new result }
 {
     match machine::default_run::default_run(state, limit) {

@@ -26,8 +26,7 @@ fn pack(answer: Step) -> u64
     }
 }
 
-#[unsafe(no_mangle)]
-pub extern "C" fn laverockin_step(state: &mut [u8], thread: u64) -> u64
+pub fn laverockin_step(state: &mut [u8], thread: u64) -> u64
     ensures { StepsC state.old thread result state.new }
 {
     let answer = machine::entry::step(state, thread);
