@@ -129,7 +129,7 @@ antisym_at (Ty.fun s p t) h k (functions {s' = s'} {q = q} x e y) (functions {s'
     let l : t'' ≡ t = cc in
     let a = antisym_at s h.0 k.0 (subst (λ z. Subtype z s') i x') x refl in
     let b = within_antisym p q h.1 k.1 e (subst (λ z. within q z ≡ true) j e') in
-    let c = antisym_at t h.2 k.2 y (y') l in cc
+    let c = antisym_at t h.2 k.2 y y' l in cc
 
 pub below_antisym : (s : Ty) {t : Ty} → TyIn 32 s → TyIn 32 t → Subtype s t → Subtype t s → s ≡ t
 below_antisym s h k f g = antisym_at s h k f g refl

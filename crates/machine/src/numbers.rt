@@ -3,6 +3,7 @@ ghost use Rattle.machine.specs.Numbers.{Numbers};
 
 use crate::step::Step;
 
+#[tactic(auto, using(crate::specs::Numbers::numbers_case), unfolding(paper::specs::Cases::told))]
 pub fn answer_of(answer: Step) -> u8
     ensures { Numbers answer result }
 {

@@ -74,7 +74,7 @@ fn lead_cell(s: &[u8], at: usize, vars: u8, locks: u8, left: u8) -> Lead
 }
 
 // Two parts and no field: apply, write, section, then and add; and let, whose second part is under one variable more.
-#[cycle(lead_if_lead_two_read_exp_read_lead)]
+#[cycle(leads)]
 fn lead_two(s: &[u8], at: usize, code: u8, vars: u8, locks: u8, left: u8) -> Lead
     requires { Due s.now at code vars locks left × (parts code ≡ 2) }
     ensures { Led s.now at vars locks left result }
@@ -92,7 +92,7 @@ fn lead_two(s: &[u8], at: usize, code: u8, vars: u8, locks: u8, left: u8) -> Lea
 }
 
 // An if: the result's type, then three parts.
-#[cycle(lead_if_lead_two_read_exp_read_lead)]
+#[cycle(leads)]
 fn lead_if(s: &[u8], at: usize, vars: u8, locks: u8, left: u8) -> Lead
     requires { Due s.now at 15 vars locks left }
     ensures { Led s.now at vars locks left result }
@@ -111,7 +111,7 @@ fn lead_if(s: &[u8], at: usize, vars: u8, locks: u8, left: u8) -> Lead
 
 // The expression at `at`, under `vars` binders and `locks` locks, with `left` of the nesting left, up to its last part. Of its code: 5, 4, then 7.
 // What an arm calls is called nowhere else, so that the compiler takes it in.
-#[cycle(lead_if_lead_two_read_exp_read_lead)]
+#[cycle(leads)]
 fn read_lead(s: &[u8], at: usize, vars: u8, locks: u8, left: u8) -> Lead
     requires { (vars + left ≤ 64) × (locks ≤ 32) }
     ensures { Led s.now at vars locks left result }
@@ -150,7 +150,7 @@ fn read_lead(s: &[u8], at: usize, vars: u8, locks: u8, left: u8) -> Lead
 }
 
 // The whole of it: on with the last part, as long as there is one.
-#[cycle(lead_if_lead_two_read_exp_read_lead)]
+#[cycle(leads)]
 pub(crate) fn read_exp(s: &[u8], at: usize, vars: u8, locks: u8, left: u8) -> Got
     requires { (vars + left ≤ 64) × (locks ≤ 32) }
     ensures { result ≡ told (read_exp 1 left s.now locks vars at) }

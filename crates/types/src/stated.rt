@@ -76,7 +76,7 @@ pub(crate) enum Lead {
 }
 
 // The type at `at`, with `left` of the nesting left, up to its last part: a Ref's content, or a Function's result.
-#[cycle(read_lead_read_type)]
+#[cycle(leads)]
 fn read_lead(s: &[u8], at: usize, locks: u8, left: u8) -> Lead
     ensures { TypeLed s.now at locks left result }
 {
@@ -125,7 +125,7 @@ fn read_lead(s: &[u8], at: usize, locks: u8, left: u8) -> Lead
 }
 
 // The whole of it: on with the last part, as long as there is one.
-#[cycle(read_lead_read_type)]
+#[cycle(leads)]
 fn read_type(s: &[u8], at: usize, locks: u8, left: u8) -> Got
     ensures { TypeRead s.now at locks left result }
 {

@@ -1,5 +1,6 @@
 -- How each rule begins: where its first part stands, what that part is under, and how many parts there are.
 use mathlib.Core.Path.{◌≡◌, refl, ap, sym, ◌∙◌}
+use mathlib.Core.Bool.{Bool, true}
 use mathlib.Core.List.{List}
 use Prim.Native.Nat.{ℕ, zero, suc, ◌+◌, ◌-◌, ◌<◌}
 use native.Mathlib.Omega.{arith}
@@ -7,11 +8,13 @@ use native.Mathlib.Nat.{add-zero, le_antisymm}
 use lib.ListN.{get_or}
 use Rattle.reading.specs.Walk.{parts, binds1, locks1}
 use Rattle.judging.specs.Copies.{Ends}
-use Rattle.judging.specs.Contract.{Ready, Entered, Starts}
+use Rattle.judging.specs.declared.work.Answer.{Answer}
+use Rattle.judging.specs.declared.work.Answer.TheVariants.{Typed}
+use Rattle.judging.specs.Contract.{Ready, Finds, Entered, Starts, Tests1, Due}
 use Rattle.judging.proofs.Node.{read_whole}
 use Rattle.judging.proofs.binding.Env.{binds1_other, locks1_other, enter_other}
 use Rattle.judging.proofs.binding.Start.{own_read, starts, start_cell, start_if, start_other}
-use Rattle.judging.proofs.typing.One.{Started, After1}
+use Rattle.judging.proofs.typing.One.{Started, After1, due_1}
 use Rattle.judging.proofs.typing.Two.{Due2, After2}
 use Rattle.judging.proofs.typing.Three.{Due3}
 
@@ -103,6 +106,16 @@ if_due_2 e A = record { after = A; more = λ f. omega (arith, if_parts e); no_le
 
 pub if_due_3 : {img w w6 : List ℕ} {at v n left p3 l2 : ℕ} → get_or img at 0 ≡ 15 → After2 img w w6 at v n left p3 l2 → Due3 img w w6 at v n left p3 l2
 if_due_3 e A = record { after = A; more = λ f. omega (arith, if_parts e) }
+
+-- the first part has a type, and the test after it is passed: the second part is due
+module _ {img w w2 w3 : List ℕ} {at v n left kind p2 m1 : ℕ} {r1 : Answer} {ok : Bool} (R : Ready img w at v n left) where
+  pub second_due : {b : ℕ} → Beside b 2 → get_or img at 0 ≡ b → Finds img w w2 (at + 1) v n (left - 1) r1 → r1 ≡ Typed p2 m1
+      → Tests1 (λ k. Due k kind) w2 w3 left ok → Due (get_or img at 0) kind → ok ≡ true → Due2 img w w3 at v n left p2 m1
+  second_due d e f s a k h = due_2 d e (due_1 (beside R d e) f s a k h)
+
+  pub if_second_due : {p : ℕ} → get_or img at 0 ≡ 15 → Ends img (at + 1) p → Finds img w w2 p v n (left - 1) r1 → r1 ≡ Typed p2 m1
+      → Tests1 (λ k. Due k kind) w2 w3 left ok → Due (get_or img at 0) kind → ok ≡ true → Due2 img w w3 at v n left p2 m1
+  if_second_due e q f s a k h = if_due_2 e (due_1 (behind_type R e q) f s a k h)
 
 -- the one part of a function, of a new cell and of a new lock
 pub one_part : {b k : ℕ} → b ≡ k → parts k ≡ 1 → parts b ≡ 1

@@ -6,7 +6,7 @@ use native.Mathlib.Omega.{arith}
 use Rattle.judging.specs.Contract.{due14, due5, due15, due11, due8}
 use Rattle.judging.proofs.typing.One.{less_left, inside, some_left, ready_1, refused_1, some_1, other_1, due_1, ends_1}
 use Rattle.judging.proofs.typing.Two.{ready_2, refused_2, some_2, ends_2, other_2, fits_2}
-use Rattle.judging.proofs.typing.Rule.{is_add, parts_are, beside, due_2, is_apply, behind_type, if_due_2, if_due_3, is_fork, under_argument, one_part, last_code, behind_name, under_lock, is_read, is_section, is_write}
+use Rattle.judging.proofs.typing.Rule.{is_add, parts_are, beside, second_due, if_second_due, is_apply, behind_type, if_due_3, is_fork, under_argument, one_part, last_code, behind_name, under_lock, is_read, is_section, is_write}
 use Rattle.judging.proofs.binding.Start.{own_read, start_if, start_cell}
 use Rattle.judging.proofs.typing.Three.{ready_3, refused_3, some_3, ends_3}
 use Rattle.reading.specs.Walk.{parts}
@@ -33,12 +33,12 @@ add-overflow_sub-left-then-first_int t c = pos_of_ne-zero (some_left c.requires.
 
 pub add-judge-requires-then-first_int : goal.add-judge-requires-then-first_int
 add-judge-requires-then-first_int t c =
-    let due = due_2 is_add c.requires.1 (due_1 (beside c.requires.0 is_add c.requires.1) c.judge.ensures c.in-Typed.is c.first_int.ensures (due14 c.requires.1 refl) c.if-first_int.true) in
+    let due = second_due c.requires.0 is_add c.requires.1 c.judge.ensures c.in-Typed.is c.first_int.ensures (due14 c.requires.1 refl) c.if-first_int.true in
     (less_left _ _ c.decreases (some_left c.requires.0), ready_2 due)
 
 pub add-second_add-requires : goal.add-second_add-requires
 add-second_add-requires t c =
-    let due = due_2 is_add c.requires.1 (due_1 (beside c.requires.0 is_add c.requires.1) c.judge.ensures c.in-Typed.is c.first_int.ensures (due14 c.requires.1 refl) c.if-first_int.true) in
+    let due = second_due c.requires.0 is_add c.requires.1 c.judge.ensures c.in-Typed.is c.first_int.ensures (due14 c.requires.1 refl) c.if-first_int.true in
     (_, _, (_, some_2 due c.judge-then-first_int.ensures c.in-Typed-judge.is, c.requires.1))
 
 pub add-returns-in-Refused : goal.add-returns-in-Refused
@@ -46,12 +46,12 @@ add-returns-in-Refused t c = refused_1 (beside c.requires.0 is_add c.requires.1)
 
 pub add-returns-in-Refused-judge : goal.add-returns-in-Refused-judge
 add-returns-in-Refused-judge t c =
-    let due = due_2 is_add c.requires.1 (due_1 (beside c.requires.0 is_add c.requires.1) c.judge.ensures c.in-Typed.is c.first_int.ensures (due14 c.requires.1 refl) c.if-first_int.true) in
+    let due = second_due c.requires.0 is_add c.requires.1 c.judge.ensures c.in-Typed.is c.first_int.ensures (due14 c.requires.1 refl) c.if-first_int.true in
     refused_2 due c.judge-then-first_int.ensures c.in-Refused-judge.is
 
 pub add-returns-in-Typed-judge : goal.add-returns-in-Typed-judge
 add-returns-in-Typed-judge t c =
-    let due = due_2 is_add c.requires.1 (due_1 (beside c.requires.0 is_add c.requires.1) c.judge.ensures c.in-Typed.is c.first_int.ensures (due14 c.requires.1 refl) c.if-first_int.true) in
+    let due = second_due c.requires.0 is_add c.requires.1 c.judge.ensures c.in-Typed.is c.first_int.ensures (due14 c.requires.1 refl) c.if-first_int.true in
     ends_2 due c.judge-then-first_int.ensures c.in-Typed-judge.is (c.second_add.ensures _ _) c.requires.1 (parts_are is_add c.requires.1)
 
 pub add-returns-else-first_int : goal.add-returns-else-first_int
@@ -74,12 +74,12 @@ apply-overflow_sub-left-then-first_due t c = pos_of_ne-zero (some_left c.require
 
 pub apply-judge-requires-then-first_due : goal.apply-judge-requires-then-first_due
 apply-judge-requires-then-first_due t c =
-    let due = due_2 is_apply c.requires.1 (due_1 (beside c.requires.0 is_apply c.requires.1) c.judge.ensures c.in-Typed.is c.first_due.ensures (due5 c.requires.1 refl) c.if-first_due.true) in
+    let due = second_due c.requires.0 is_apply c.requires.1 c.judge.ensures c.in-Typed.is c.first_due.ensures (due5 c.requires.1 refl) c.if-first_due.true in
     (less_left _ _ c.decreases (some_left c.requires.0), ready_2 due)
 
 pub apply-second_app-requires : goal.apply-second_app-requires
 apply-second_app-requires t c =
-    let due = due_2 is_apply c.requires.1 (due_1 (beside c.requires.0 is_apply c.requires.1) c.judge.ensures c.in-Typed.is c.first_due.ensures (due5 c.requires.1 refl) c.if-first_due.true) in
+    let due = second_due c.requires.0 is_apply c.requires.1 c.judge.ensures c.in-Typed.is c.first_due.ensures (due5 c.requires.1 refl) c.if-first_due.true in
     (_, _, (_, some_2 due c.judge-then-first_due.ensures c.in-Typed-judge.is, c.requires.1))
 
 pub apply-returns-in-Refused : goal.apply-returns-in-Refused
@@ -87,12 +87,12 @@ apply-returns-in-Refused t c = refused_1 (beside c.requires.0 is_apply c.require
 
 pub apply-returns-in-Refused-judge : goal.apply-returns-in-Refused-judge
 apply-returns-in-Refused-judge t c =
-    let due = due_2 is_apply c.requires.1 (due_1 (beside c.requires.0 is_apply c.requires.1) c.judge.ensures c.in-Typed.is c.first_due.ensures (due5 c.requires.1 refl) c.if-first_due.true) in
+    let due = second_due c.requires.0 is_apply c.requires.1 c.judge.ensures c.in-Typed.is c.first_due.ensures (due5 c.requires.1 refl) c.if-first_due.true in
     refused_2 due c.judge-then-first_due.ensures c.in-Refused-judge.is
 
 pub apply-returns-in-Typed-judge : goal.apply-returns-in-Typed-judge
 apply-returns-in-Typed-judge t c =
-    let due = due_2 is_apply c.requires.1 (due_1 (beside c.requires.0 is_apply c.requires.1) c.judge.ensures c.in-Typed.is c.first_due.ensures (due5 c.requires.1 refl) c.if-first_due.true) in
+    let due = second_due c.requires.0 is_apply c.requires.1 c.judge.ensures c.in-Typed.is c.first_due.ensures (due5 c.requires.1 refl) c.if-first_due.true in
     ends_2 due c.judge-then-first_due.ensures c.in-Typed-judge.is (c.second_app.ensures _ _) c.requires.1 (parts_are is_apply c.requires.1)
 
 pub apply-returns-else-first_due : goal.apply-returns-else-first_due
@@ -118,12 +118,12 @@ conditional-overflow_sub-left-then-first_int t c = pos_of_ne-zero (some_left c.r
 
 pub conditional-judge-requires-then-first_int : goal.conditional-judge-requires-then-first_int
 conditional-judge-requires-then-first_int t c =
-    let due = if_due_2 c.requires.1 (due_1 (behind_type c.requires.0 c.requires.1 c.skip-p1.ensures) c.judge.ensures c.in-Typed.is c.first_int.ensures (due15 c.requires.1 refl) c.if-first_int.true) in
+    let due = if_second_due c.requires.0 c.requires.1 c.skip-p1.ensures c.judge.ensures c.in-Typed.is c.first_int.ensures (due15 c.requires.1 refl) c.if-first_int.true in
     (less_left _ _ c.decreases (some_left c.requires.0), ready_2 due)
 
 pub conditional-second_cond-requires : goal.conditional-second_cond-requires
 conditional-second_cond-requires t c =
-    let due = if_due_2 c.requires.1 (due_1 (behind_type c.requires.0 c.requires.1 c.skip-p1.ensures) c.judge.ensures c.in-Typed.is c.first_int.ensures (due15 c.requires.1 refl) c.if-first_int.true) in
+    let due = if_second_due c.requires.0 c.requires.1 c.skip-p1.ensures c.judge.ensures c.in-Typed.is c.first_int.ensures (due15 c.requires.1 refl) c.if-first_int.true in
     (_, some_2 due c.judge-then-first_int.ensures c.in-Typed-judge.is, c.requires.1)
 
 pub conditional-overflow_sub-left-then-second_cond : goal.conditional-overflow_sub-left-then-second_cond
@@ -131,13 +131,13 @@ conditional-overflow_sub-left-then-second_cond t c = pos_of_ne-zero (some_left c
 
 pub conditional-judge-requires-then-second_cond : goal.conditional-judge-requires-then-second_cond
 conditional-judge-requires-then-second_cond t c =
-    let due = if_due_2 c.requires.1 (due_1 (behind_type c.requires.0 c.requires.1 c.skip-p1.ensures) c.judge.ensures c.in-Typed.is c.first_int.ensures (due15 c.requires.1 refl) c.if-first_int.true) in
+    let due = if_second_due c.requires.0 c.requires.1 c.skip-p1.ensures c.judge.ensures c.in-Typed.is c.first_int.ensures (due15 c.requires.1 refl) c.if-first_int.true in
     let due_third = if_due_3 c.requires.1 (fits_2 due c.judge-then-first_int.ensures c.in-Typed-judge.is c.second_cond.ensures c.requires.1 c.if-second_cond.true) in
     (less_left _ _ c.decreases (some_left c.requires.0), ready_3 due_third)
 
 pub conditional-after_third-requires : goal.conditional-after_third-requires
 conditional-after_third-requires t c =
-    let due = if_due_2 c.requires.1 (due_1 (behind_type c.requires.0 c.requires.1 c.skip-p1.ensures) c.judge.ensures c.in-Typed.is c.first_int.ensures (due15 c.requires.1 refl) c.if-first_int.true) in
+    let due = if_second_due c.requires.0 c.requires.1 c.skip-p1.ensures c.judge.ensures c.in-Typed.is c.first_int.ensures (due15 c.requires.1 refl) c.if-first_int.true in
     let due_third = if_due_3 c.requires.1 (fits_2 due c.judge-then-first_int.ensures c.in-Typed-judge.is c.second_cond.ensures c.requires.1 c.if-second_cond.true) in
     (_, some_3 due_third c.judge-then-second_cond.ensures c.in-Typed-judge-2.is)
 
@@ -146,24 +146,24 @@ conditional-returns-in-Refused t c = refused_1 (behind_type c.requires.0 c.requi
 
 pub conditional-returns-in-Refused-judge : goal.conditional-returns-in-Refused-judge
 conditional-returns-in-Refused-judge t c =
-    let due = if_due_2 c.requires.1 (due_1 (behind_type c.requires.0 c.requires.1 c.skip-p1.ensures) c.judge.ensures c.in-Typed.is c.first_int.ensures (due15 c.requires.1 refl) c.if-first_int.true) in
+    let due = if_second_due c.requires.0 c.requires.1 c.skip-p1.ensures c.judge.ensures c.in-Typed.is c.first_int.ensures (due15 c.requires.1 refl) c.if-first_int.true in
     refused_2 due c.judge-then-first_int.ensures c.in-Refused-judge.is
 
 pub conditional-returns-in-Refused-judge-2 : goal.conditional-returns-in-Refused-judge-2
 conditional-returns-in-Refused-judge-2 t c =
-    let due = if_due_2 c.requires.1 (due_1 (behind_type c.requires.0 c.requires.1 c.skip-p1.ensures) c.judge.ensures c.in-Typed.is c.first_int.ensures (due15 c.requires.1 refl) c.if-first_int.true) in
+    let due = if_second_due c.requires.0 c.requires.1 c.skip-p1.ensures c.judge.ensures c.in-Typed.is c.first_int.ensures (due15 c.requires.1 refl) c.if-first_int.true in
     let due_third = if_due_3 c.requires.1 (fits_2 due c.judge-then-first_int.ensures c.in-Typed-judge.is c.second_cond.ensures c.requires.1 c.if-second_cond.true) in
     refused_3 due_third c.judge-then-second_cond.ensures c.in-Refused-judge-2.is
 
 pub conditional-returns-in-Typed-judge-2 : goal.conditional-returns-in-Typed-judge-2
 conditional-returns-in-Typed-judge-2 t c =
-    let due = if_due_2 c.requires.1 (due_1 (behind_type c.requires.0 c.requires.1 c.skip-p1.ensures) c.judge.ensures c.in-Typed.is c.first_int.ensures (due15 c.requires.1 refl) c.if-first_int.true) in
+    let due = if_second_due c.requires.0 c.requires.1 c.skip-p1.ensures c.judge.ensures c.in-Typed.is c.first_int.ensures (due15 c.requires.1 refl) c.if-first_int.true in
     let due_third = if_due_3 c.requires.1 (fits_2 due c.judge-then-first_int.ensures c.in-Typed-judge.is c.second_cond.ensures c.requires.1 c.if-second_cond.true) in
     ends_3 due_third c.judge-then-second_cond.ensures c.in-Typed-judge-2.is c.after_third.ensures
 
 pub conditional-returns-else-second_cond : goal.conditional-returns-else-second_cond
 conditional-returns-else-second_cond t c =
-    let due = if_due_2 c.requires.1 (due_1 (behind_type c.requires.0 c.requires.1 c.skip-p1.ensures) c.judge.ensures c.in-Typed.is c.first_int.ensures (due15 c.requires.1 refl) c.if-first_int.true) in
+    let due = if_second_due c.requires.0 c.requires.1 c.skip-p1.ensures c.judge.ensures c.in-Typed.is c.first_int.ensures (due15 c.requires.1 refl) c.if-first_int.true in
     other_2 due c.judge-then-first_int.ensures c.in-Typed-judge.is c.second_cond.ensures c.requires.1 c.if-second_cond.false
 
 pub conditional-returns-else-first_int : goal.conditional-returns-else-first_int
@@ -342,12 +342,12 @@ section-overflow_sub-left-then-first_due t c = pos_of_ne-zero (some_left c.requi
 
 pub section-judge-requires-then-first_due : goal.section-judge-requires-then-first_due
 section-judge-requires-then-first_due t c =
-    let due = due_2 is_section c.requires.1 (due_1 (beside c.requires.0 is_section c.requires.1) c.judge.ensures c.in-Typed.is c.first_due.ensures (due11 c.requires.1 refl) c.if-first_due.true) in
+    let due = second_due c.requires.0 is_section c.requires.1 c.judge.ensures c.in-Typed.is c.first_due.ensures (due11 c.requires.1 refl) c.if-first_due.true in
     (less_left _ _ c.decreases (some_left c.requires.0), ready_2 due)
 
 pub section-second_sync-requires : goal.section-second_sync-requires
 section-second_sync-requires t c =
-    let due = due_2 is_section c.requires.1 (due_1 (beside c.requires.0 is_section c.requires.1) c.judge.ensures c.in-Typed.is c.first_due.ensures (due11 c.requires.1 refl) c.if-first_due.true) in
+    let due = second_due c.requires.0 is_section c.requires.1 c.judge.ensures c.in-Typed.is c.first_due.ensures (due11 c.requires.1 refl) c.if-first_due.true in
     (_, _, (_, some_2 due c.judge-then-first_due.ensures c.in-Typed-judge.is, c.requires.1))
 
 pub section-returns-in-Refused : goal.section-returns-in-Refused
@@ -355,12 +355,12 @@ section-returns-in-Refused t c = refused_1 (beside c.requires.0 is_section c.req
 
 pub section-returns-in-Refused-judge : goal.section-returns-in-Refused-judge
 section-returns-in-Refused-judge t c =
-    let due = due_2 is_section c.requires.1 (due_1 (beside c.requires.0 is_section c.requires.1) c.judge.ensures c.in-Typed.is c.first_due.ensures (due11 c.requires.1 refl) c.if-first_due.true) in
+    let due = second_due c.requires.0 is_section c.requires.1 c.judge.ensures c.in-Typed.is c.first_due.ensures (due11 c.requires.1 refl) c.if-first_due.true in
     refused_2 due c.judge-then-first_due.ensures c.in-Refused-judge.is
 
 pub section-returns-in-Typed-judge : goal.section-returns-in-Typed-judge
 section-returns-in-Typed-judge t c =
-    let due = due_2 is_section c.requires.1 (due_1 (beside c.requires.0 is_section c.requires.1) c.judge.ensures c.in-Typed.is c.first_due.ensures (due11 c.requires.1 refl) c.if-first_due.true) in
+    let due = second_due c.requires.0 is_section c.requires.1 c.judge.ensures c.in-Typed.is c.first_due.ensures (due11 c.requires.1 refl) c.if-first_due.true in
     ends_2 due c.judge-then-first_due.ensures c.in-Typed-judge.is (c.second_sync.ensures _ _ _) c.requires.1 (parts_are is_section c.requires.1)
 
 pub section-returns-else-first_due : goal.section-returns-else-first_due
@@ -419,12 +419,12 @@ write-overflow_sub-left-then-first_due t c = pos_of_ne-zero (some_left c.require
 
 pub write-judge-requires-then-first_due : goal.write-judge-requires-then-first_due
 write-judge-requires-then-first_due t c =
-    let due = due_2 is_write c.requires.1 (due_1 (beside c.requires.0 is_write c.requires.1) c.judge.ensures c.in-Typed.is c.first_due.ensures (due8 c.requires.1 refl) c.if-first_due.true) in
+    let due = second_due c.requires.0 is_write c.requires.1 c.judge.ensures c.in-Typed.is c.first_due.ensures (due8 c.requires.1 refl) c.if-first_due.true in
     (less_left _ _ c.decreases (some_left c.requires.0), ready_2 due)
 
 pub write-second_write-requires : goal.write-second_write-requires
 write-second_write-requires t c =
-    let due = due_2 is_write c.requires.1 (due_1 (beside c.requires.0 is_write c.requires.1) c.judge.ensures c.in-Typed.is c.first_due.ensures (due8 c.requires.1 refl) c.if-first_due.true) in
+    let due = second_due c.requires.0 is_write c.requires.1 c.judge.ensures c.in-Typed.is c.first_due.ensures (due8 c.requires.1 refl) c.if-first_due.true in
     (_, _, (_, some_2 due c.judge-then-first_due.ensures c.in-Typed-judge.is, c.requires.1))
 
 pub write-returns-in-Refused : goal.write-returns-in-Refused
@@ -432,12 +432,12 @@ write-returns-in-Refused t c = refused_1 (beside c.requires.0 is_write c.require
 
 pub write-returns-in-Refused-judge : goal.write-returns-in-Refused-judge
 write-returns-in-Refused-judge t c =
-    let due = due_2 is_write c.requires.1 (due_1 (beside c.requires.0 is_write c.requires.1) c.judge.ensures c.in-Typed.is c.first_due.ensures (due8 c.requires.1 refl) c.if-first_due.true) in
+    let due = second_due c.requires.0 is_write c.requires.1 c.judge.ensures c.in-Typed.is c.first_due.ensures (due8 c.requires.1 refl) c.if-first_due.true in
     refused_2 due c.judge-then-first_due.ensures c.in-Refused-judge.is
 
 pub write-returns-in-Typed-judge : goal.write-returns-in-Typed-judge
 write-returns-in-Typed-judge t c =
-    let due = due_2 is_write c.requires.1 (due_1 (beside c.requires.0 is_write c.requires.1) c.judge.ensures c.in-Typed.is c.first_due.ensures (due8 c.requires.1 refl) c.if-first_due.true) in
+    let due = second_due c.requires.0 is_write c.requires.1 c.judge.ensures c.in-Typed.is c.first_due.ensures (due8 c.requires.1 refl) c.if-first_due.true in
     ends_2 due c.judge-then-first_due.ensures c.in-Typed-judge.is (c.second_write.ensures _ _) c.requires.1 (parts_are is_write c.requires.1)
 
 pub write-returns-else-first_due : goal.write-returns-else-first_due

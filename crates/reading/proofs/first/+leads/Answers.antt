@@ -17,7 +17,7 @@ use Rattle.reading.proofs.first.Stages.{led_ended, led_zero, led_high, led_deep,
 use native.Mathlib.Nat.{add-zero}
 use Rattle.types.proofs.stated.Laws.{on_refused, on_next}
 use Rattle.types.proofs.stated.Agree.{stated_back}
-use Rattle.reading.proofs.first.+lead_if_lead_two_read_exp_read_lead.Goals as goal
+use Rattle.reading.proofs.first.+leads.Goals as goal
 
 -- after the four tests
 due : {s : List ℕ} {i k v n d : ℕ} → i < length s → get_or s i 0 ≡ k → 0 < k → k ≤ 15 → 0 < d → v + d ≤ 64 → n ≤ 32 → Due s i k v n d

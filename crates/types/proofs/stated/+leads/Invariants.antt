@@ -2,7 +2,7 @@ use Rattle.paper.specs.Reading.{read_type}
 use Rattle.types.specs.Told.{told}
 use Prim.Native.Nat.{◌+◌, ◌*◌, ◌≤◌}
 use mathlib.Core.Path.{◌≡◌}
-use Rattle.types.proofs.stated.+read_lead_read_type.Given as goal
+use Rattle.types.proofs.stated.+leads.Given as goal
 
 abbrev pub decreases-read_lead : goal.decreases-read_lead
 decreases-read_lead l = 2 * l.left

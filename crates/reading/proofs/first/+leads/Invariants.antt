@@ -2,7 +2,7 @@ use mathlib.Core.Path.{◌≡◌}
 use Prim.Native.Nat.{◌+◌, ◌≤◌, ◌*◌}
 use Rattle.paper.specs.Reading.{read_exp}
 use Rattle.types.specs.Told.{told}
-use Rattle.reading.proofs.first.+lead_if_lead_two_read_exp_read_lead.Given as goal
+use Rattle.reading.proofs.first.+leads.Given as goal
 
 abbrev pub invariant-read_exp-loop-p : goal.invariant-read_exp-loop-p
 invariant-read_exp-loop-p l =

@@ -3,7 +3,7 @@
 use Rattle.types.proofs.stated.Leads.{lead_ended, lead_low, lead_high, lead_deep, lead_leaf, argument_refused, set_refused, result_last, name_refused, lock_whole, content_last}
 use native.Mathlib.Omega.{arith}
 use mathlib.Core.Path.{refl, ◌∙◌}
-use Rattle.types.proofs.stated.+read_lead_read_type.Goals as goal
+use Rattle.types.proofs.stated.+leads.Goals as goal
 
 pub read_lead-returns-then-s-at : goal.read_lead-returns-then-s-at
 read_lead-returns-then-s-at t c = lead_ended _ _ _ _ c.if-s-at.true
