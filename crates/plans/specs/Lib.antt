@@ -21,3 +21,4 @@ pub mod Laying
 pub mod Naming
 pub mod Stepping
 pub mod Loading
+pub mod Card

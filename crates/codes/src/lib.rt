@@ -1,0 +1,80 @@
+// The codes of an image's bytes (document 01, "The program image"): of expressions and of types.
+#![tactic(auto)]
+
+ghost use Rattle.codes.specs.Codes.{TypeDecodes, ExpDecodes};
+
+// A byte that is no code where one is due.
+#[derive(Clone, Copy, Debug, PartialEq, Eq)]
+pub struct NoSuchCode;
+
+#[derive(Clone, Copy, Debug, PartialEq, Eq)]
+pub enum TypeCode {
+    Unit,
+    Int,
+    Lock,
+    Ref,
+    Function,
+}
+
+impl TryFrom<u8> for TypeCode {
+    type Error = NoSuchCode;
+
+    ghost try_from_gives = { TypeDecodes };
+
+    fn try_from(b: u8) -> Result<TypeCode, NoSuchCode> {
+        match b {
+            0x20 => Ok(TypeCode::Unit),
+            0x21 => Ok(TypeCode::Int),
+            0x22 => Ok(TypeCode::Lock),
+            0x23 => Ok(TypeCode::Ref),
+            0x24 => Ok(TypeCode::Function),
+            _ => Err(NoSuchCode),
+        }
+    }
+}
+
+#[derive(Clone, Copy, Debug, PartialEq, Eq)]
+pub enum ExpCode {
+    Unit,
+    Number,
+    Variable,
+    Function,
+    Apply,
+    NewCell,
+    Read,
+    Write,
+    Fork,
+    NewLock,
+    Section,
+    Let,
+    Then,
+    Add,
+    If,
+}
+
+impl TryFrom<u8> for ExpCode {
+    type Error = NoSuchCode;
+
+    ghost try_from_gives = { ExpDecodes };
+
+    fn try_from(b: u8) -> Result<ExpCode, NoSuchCode> {
+        match b {
+            0x01 => Ok(ExpCode::Unit),
+            0x02 => Ok(ExpCode::Number),
+            0x03 => Ok(ExpCode::Variable),
+            0x04 => Ok(ExpCode::Function),
+            0x05 => Ok(ExpCode::Apply),
+            0x06 => Ok(ExpCode::NewCell),
+            0x07 => Ok(ExpCode::Read),
+            0x08 => Ok(ExpCode::Write),
+            0x09 => Ok(ExpCode::Fork),
+            0x0A => Ok(ExpCode::NewLock),
+            0x0B => Ok(ExpCode::Section),
+            0x0C => Ok(ExpCode::Let),
+            0x0D => Ok(ExpCode::Then),
+            0x0E => Ok(ExpCode::Add),
+            0x0F => Ok(ExpCode::If),
+            _ => Err(NoSuchCode),
+        }
+    }
+}
