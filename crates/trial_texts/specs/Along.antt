@@ -1,15 +1,15 @@
 -- A text that is written turn by turn, a line a turn: what is written and what is still to come make the whole. The schedule and the default run
 -- are both such, and differ in which step a turn tries.
-use Rattle.std.specs.Prelude.{◌≡◌, refl, Bool, true, false, List, [], ◌++◌, ℕ, ◌+◌, ◌*◌, ◌-◌, ◌<◌, ◌≤◌, length}
+use Rattle.std.specs.Prelude.{◌≡◌, refl, List, [], ◌++◌, ℕ, ◌+◌, ◌*◌, ◌-◌, ◌<◌, ◌≤◌, length, Some, None}
+use Rattle.std.specs.declared.ops.ControlFlow.TheVariants.{Continue, Break}
 use Rattle.std.proofs.Common.{sym, ap, ◌∙◌, subst, append_assoc, append-nil, arith}
 use Rattle.std.proofs.Math.Option.{Option, none, some}
 use Rattle.paper.specs.States.{State}
 use Rattle.paper.specs.Runs.{Made}
 use Rattle.paper.specs.Texts.{step_text}
-use Rattle.laws.specs.Tests.{no_true}
 use Rattle.trial_texts.specs.Put.{Put, put_length, put_none, put_then}
 use Rattle.trial_texts.specs.Bench.{Bench, bench_one, Beyond, beyond_same, beyond_then}
-use Rattle.trial_texts.specs.StepText.{Ready, Told, stays, goes_on, ends, Tries}
+use Rattle.trial_texts.specs.StepText.{Ready, Line, Told, stays, goes_on, ends, Tries}
 
 -- the text T is written from the offset `at` on, up to `rest`
 pub record Along (T rest out out' : List ℕ) (at end : ℕ) : Type 0 where
@@ -95,26 +95,24 @@ module _ {n : ℕ} {rest : ℕ → State → List ℕ} {s out : List ℕ} {at : 
     going_end e = let k = g.space in let l = out_kept in printed (along_end g.along (e g.held)) (omega arith) g.beyond
 
     -- one more
-    module _ (h : i < n) {pick : State → Option Made} {other : State → List ℕ} (u : Turn rest i pick other) {s'' out'' : List ℕ} {made found : Bool} {end' : ℕ}
-        (t : Tries pick s' out' end s'' out'' made found end') where
-      tell : Told g.held s'' out' out'' end (pick g.held) made found end'
+    module _ (h : i < n) {pick : State → Option Made} {other : State → List ℕ} (u : Turn rest i pick other) {s'' out'' : List ℕ} {r : Line}
+        (t : Tries pick s' out' end s'' out'' r) where
+      tell : Told g.held s'' out' out'' end (pick g.held) r
       tell = t.tells g.held g.bench
 
       further : Beyond s s''
       further = beyond_then g.beyond t.beyond
 
       -- it found a race
-      pub turn_race : found ≡ true → Prints (rest 0) s out at s'' out'' end'
-      turn_race q = by (pick g.held) refl tell q
+      pub turn_race : {e : ℕ} → r ≡ Some (Break e) → Prints (rest 0) s out at s'' out'' e
+      turn_race {e} q = by (pick g.held) refl (subst (Told g.held s'' out' out'' end (pick g.held)) q tell)
         where
-          by : (o : Option Made) → pick g.held ≡ o → {m f : Bool} {e : ℕ} → Told g.held s'' out' out'' end o m f e → f ≡ true
-              → Prints (rest 0) s out at s'' out'' e
-          by none w (stays b e) z = no_true z
-          by (some m) w (goes_on line b x p l) z = no_true z
-          by (some m) w (ends line b x p l) z =
+          by : (o : Option Made) → pick g.held ≡ o → Told g.held s'' out' out'' end o (Some (Break e)) → Prints (rest 0) s out at s'' out'' e
+          by none w x = elim x [ ]
+          by (some m) w (ends line b x p l) =
               let k = g.space in
               let j = out_kept in
-              let e = p.end in
+              let d = p.end in
               printed (along_done g.along p (u.says g.held ∙ rw w (x (rest (i + 1) m.after)))) (omega arith) further
 
       next : {m : Made} {line : List ℕ} {e : ℕ} → pick g.held ≡ some m → Bench s'' m.after → ((r : List ℕ) → step_text m r ≡ line ++ r)
@@ -131,47 +129,38 @@ module _ {n : ℕ} {rest : ℕ → State → List ℕ} {s out : List ℕ} {at : 
       }
 
       -- it made a step and found no race
-      pub turn_on : made ≡ true → found ≡ false → Going n rest s out at s'' out'' end' (i + 1)
-      turn_on q r = by (pick g.held) refl tell q r
+      pub turn_on : {e : ℕ} → r ≡ Some (Continue e) → Going n rest s out at s'' out'' e (i + 1)
+      turn_on {e} q = by (pick g.held) refl (subst (Told g.held s'' out' out'' end (pick g.held)) q tell)
         where
-          by : (o : Option Made) → pick g.held ≡ o → {m f : Bool} {e : ℕ} → Told g.held s'' out' out'' end o m f e → m ≡ true → f ≡ false
-              → Going n rest s out at s'' out'' e (i + 1)
-          by none w (stays b e) y z = no_true y
-          by (some m) w (goes_on line b x p l) y z = next w b x p l
-          by (some m) w (ends line b x p l) y z = no_true (sym z)
+          by : (o : Option Made) → pick g.held ≡ o → Told g.held s'' out' out'' end o (Some (Continue e)) → Going n rest s out at s'' out'' e (i + 1)
+          by none w x = elim x [ ]
+          by (some m) w (goes_on line b x p l) = next w b x p l
 
-      none_next : pick g.held ≡ none → Bench s'' g.held → out'' ≡ out' → ((S : State) → other S ≡ rest (i + 1) S) → Going n rest s out at s'' out'' end (i + 1)
-      none_next w b e f = record {
-        turn = omega arith;
-        start = g.start;
-        held = g.held;
-        was = g.was;
-        bench = b;
-        along = subst (λ (x : List ℕ). Along (rest 0 g.start) (rest (i + 1) g.held) out x at end) (sym e)
-            (along_on g.along (u.says g.held ∙ rw w (f g.held)));
-        space = let k = g.space in let l = ap length e in omega arith;
-        beyond = further;
-      }
-
-      -- it found no race, and goes on where it made no step
-      pub turn_either : ((S : State) → other S ≡ rest (i + 1) S) → found ≡ false → Going n rest s out at s'' out'' end' (i + 1)
-      turn_either f q = by (pick g.held) refl tell q
+      -- it made no step, and the rest is tried
+      pub turn_past : ((S : State) → other S ≡ rest (i + 1) S) → r ≡ None → Going n rest s out at s'' out'' end (i + 1)
+      turn_past f q = by (pick g.held) refl (subst (Told g.held s'' out' out'' end (pick g.held)) q tell)
         where
-          by : (o : Option Made) → pick g.held ≡ o → {m f : Bool} {e : ℕ} → Told g.held s'' out' out'' end o m f e → f ≡ false
-              → Going n rest s out at s'' out'' e (i + 1)
-          by none w (stays b e) z = none_next w b e f
-          by (some m) w (goes_on line b x p l) z = next w b x p l
-          by (some m) w (ends line b x p l) z = no_true (sym z)
+          by : (o : Option Made) → pick g.held ≡ o → Told g.held s'' out' out'' end o None → Going n rest s out at s'' out'' end (i + 1)
+          by none w (stays b e) = record {
+            turn = omega arith;
+            start = g.start;
+            held = g.held;
+            was = g.was;
+            bench = b;
+            along = subst (λ (x : List ℕ). Along (rest 0 g.start) (rest (i + 1) g.held) out x at end) (sym e)
+                (along_on g.along (u.says g.held ∙ rw w (f g.held)));
+            space = let k = g.space in let l = ap length e in omega arith;
+            beyond = further;
+          }
+          by (some _) w x = elim x [ ]
 
       -- it made no step, and that is the end
-      pub turn_stop : ((S : State) → other S ≡ []) → made ≡ false → Prints (rest 0) s out at s'' out'' end'
-      turn_stop f q = by (pick g.held) refl tell q
+      pub turn_stop : ((S : State) → other S ≡ []) → r ≡ None → Prints (rest 0) s out at s'' out'' end
+      turn_stop f q = by (pick g.held) refl (subst (Told g.held s'' out' out'' end (pick g.held)) q tell)
         where
-          by : (o : Option Made) → pick g.held ≡ o → {m f : Bool} {e : ℕ} → Told g.held s'' out' out'' end o m f e → m ≡ false
-              → Prints (rest 0) s out at s'' out'' e
-          by none w (stays b e) z =
+          by : (o : Option Made) → pick g.held ≡ o → Told g.held s'' out' out'' end o None → Prints (rest 0) s out at s'' out'' end
+          by none w (stays b e) =
               let k = g.space in
               let j = out_kept in
               printed (subst (λ (x : List ℕ). Put out x at (rest 0 g.start) end) (sym e) (along_end g.along (u.says g.held ∙ rw w (f g.held)))) (omega arith) further
-          by (some m) w (goes_on line b x p l) z = no_true (sym z)
-          by (some m) w (ends line b x p l) z = no_true (sym z)
+          by (some _) w x = elim x [ ]

@@ -1,8 +1,8 @@
 -- The trial's input is cut into an image and a schedule (document 01: "takes an image by its length (all the input if that is shorter), then schedule
 -- bytes (those past 8,192 are ignored)").
-use Rattle.std.specs.Prelude.{◌≡◌, ℕ, ◌+◌, ◌-◌, ◌<◌, ◌≤◌, length, take, drop}
-use Rattle.std.proofs.Math.Path.{sym, ap}
-use Rattle.std.proofs.Common.{◌∙◌, arith, length-take, length-drop, drop_of_length-le, take_all, lt-ltb, le-ltb}
+use Rattle.std.specs.Prelude.{◌≡◌, refl, ℕ, ◌+◌, ◌-◌, ◌<◌, ◌≤◌, min, Bool, true, false, leb, ltb, length, take, drop}
+use Rattle.std.proofs.Math.Path.{sym, ap, subst}
+use Rattle.std.proofs.Common.{◌∙◌, arith, length-take, length-drop, drop_of_length-le, take_all, lt-ltb, le-ltb, leb-true, leb-false, ltb-true, ltb-false}
 use mathlib.Core.List.{List}
 use Rattle.paper.specs.Base.{word16}
 use Rattle.paper.specs.States.{sixteen}
@@ -37,10 +37,10 @@ module _ (input : List ℕ) where
   pub image_short : length input < 2 → Image input (length input)
   image_short h = at_length (omega arith) (short h)
 
-  pub image_whole : {n : ℕ} → n ≡ word16 input 0 → 2 ≤ length input → n + 2 ≤ length input → Image input (n + 2)
+  image_whole : {n : ℕ} → n ≡ word16 input 0 → 2 ≤ length input → n + 2 ≤ length input → Image input (n + 2)
   image_whole e h k = at_length k (let l = long h in omega arith)
 
-  pub image_cut : 2 ≤ length input → length input < word16 input 0 + 2 → Image input (length input)
+  image_cut : 2 ≤ length input → length input < word16 input 0 + 2 → Image input (length input)
   image_cut h k =
       let l : length input ≤ image_length input = let e = long h in omega arith in
       record {
@@ -49,8 +49,18 @@ module _ (input : List ℕ) where
         rest = drop_of_length-le input {i = length input} (omega arith) ∙ sym (drop_of_length-le input l);
       }
 
+  pub image_min : {n m : ℕ} → n ≡ word16 input 0 → 2 ≤ length input → m ≡ min (n + 2) (length input) → Image input m
+  image_min {n} {m} e h q = by (leb (n + 2) (length input)) refl
+    where
+      by : (b : Bool) → leb (n + 2) (length input) ≡ b → Image input m
+      by true z = let k = leb-true (n + 2) (length input) z in let f : m ≡ n + 2 = omega arith in subst (Image input) (sym f) (image_whole e h k)
+      by false z =
+          let k = leb-false (n + 2) (length input) z in
+          let f : m ≡ length input = omega arith in
+          subst (Image input) (sym f) (image_cut h (omega arith))
+
   module _ (n : ℕ) (h : n ≤ length input) where
-    pub schedule_rest : length input - n < 8192 → Schedule input n (length input)
+    schedule_rest : length input - n < 8192 → Schedule input n (length input)
     schedule_rest k =
         let l = length-drop n input in
         record {
@@ -60,10 +70,20 @@ module _ (input : List ℕ) where
           bytes = take_all (length input - n) (drop n input) (omega arith) ∙ sym (take_all 8192 (drop n input) (omega arith));
         }
 
-    pub schedule_full : 8192 ≤ length input - n → Schedule input n (n + 8192)
+    schedule_full : 8192 ≤ length input - n → Schedule input n (n + 8192)
     schedule_full k =
         let e : n + 8192 - n ≡ 8192 = omega arith in
         record { order = omega arith; inside = omega arith; few = omega arith; bytes = ap (λ (j : ℕ). take j (drop n input)) e }
+
+    pub schedule_min : {k : ℕ} → k ≡ min (length input - n) 8192 → Schedule input n (n + k)
+    schedule_min {k} q = by (ltb (length input - n) 8192) refl
+      where
+        by : (b : Bool) → ltb (length input - n) 8192 ≡ b → Schedule input n (n + k)
+        by true z = let l = ltb-true (length input - n) 8192 z in let f : n + k ≡ length input = omega arith in subst (Schedule input n) (sym f) (schedule_rest l)
+        by false z =
+            let l = ltb-false (length input - n) 8192 z in
+            let f : n + k ≡ n + 8192 = omega arith in
+            subst (Schedule input n) (sym f) (schedule_full (omega arith))
 
   -- the trial's text is that of the two
   module _ {n m : ℕ} (i : Image input n) (j : Schedule input n m) where

@@ -1,5 +1,5 @@
 -- The two runs as texts that are written turn by turn, and the search for the lowest-numbered thread that can step.
-use Rattle.std.specs.Prelude.{◌≡◌, refl, Bool, true, false}
+use Rattle.std.specs.Prelude.{◌≡◌, refl, true, false, is_some, None}
 use Rattle.std.proofs.Common.{sym, ◌∙◌, subst, add-one}
 use Rattle.std.proofs.Math.Path.{ap}
 use mathlib.Core.List.{List, [], ◌∷◌}
@@ -16,7 +16,7 @@ use Rattle.laws.specs.Cards.{sixteen_fits}
 use Rattle.laws.specs.Tests.{no_true}
 use Rattle.plans.specs.Reads.{threads_read}
 use Rattle.trial_texts.specs.Bench.{Bench, Beyond, beyond_same, beyond_then, bench_one}
-use Rattle.trial_texts.specs.StepText.{Ready, Told, stays, goes_on, ends, Tries}
+use Rattle.trial_texts.specs.StepText.{Ready, Line, Told, stays, goes_on, ends, Tries}
 use Rattle.trial_texts.specs.Along.{Turn}
 
 -- ---- a schedule: a turn for each byte
@@ -25,10 +25,10 @@ abbrev pub schedule_from : List ℕ → ℕ → State → List ℕ
 schedule_from is i S = schedule_text sixteen (drop i is) S
 
 module _ (is : List ℕ) (i : ℕ) where
-  pub schedule_turn : i < length is → Turn (schedule_from is) i (λ S. tried sixteen S (get_or is i 0)) (schedule_from is (i + 1))
+  pub schedule_turn : i < length is → {k : ℕ} → k ≡ get_or is i 0 → Turn (schedule_from is) i (λ S. tried sixteen S k) (schedule_from is (i + 1))
   unfolding schedule_text
-  schedule_turn h =
-      let e = drop-cons is i 0 h ∙ ap (λ (k : ℕ). get_or is i 0 ∷ drop k is) (sym (add-one i)) in
+  schedule_turn h {k} q =
+      let e : drop i is ≡ k ∷ drop (i + 1) is = drop-cons is i 0 h ∙ ap (λ (j : ℕ). get_or is i 0 ∷ drop j is) (sym (add-one i)) ∙ ap (λ (b : ℕ). b ∷ drop (i + 1) is) (sym q) in
       record { says = λ S. ap (λ (l : List ℕ). schedule_text sixteen l S) e }
 
   pub schedule_end : i ≡ length is → (S : State) → schedule_from is i S ≡ []
@@ -84,27 +84,27 @@ module _ {s out : List ℕ} {at n : ℕ} where
     seeking_ready = record { held = g.held; bench = g.bench; space = let k = g.space in let l = ap length g.same in omega arith }
 
     -- what is found of the one state that the buffer held is found of it
-    found_in : {s'' out'' : List ℕ} {o : Option Made} {made found : Bool} {end : ℕ} → lowest sixteen g.held ≡ o → Told g.held s'' out out'' at o made found end
-        → Beyond s s'' → Tries (lowest sixteen) s out at s'' out'' made found end
-    found_in {s''} {out''} {o} {made} {found} {end} e t b = record {
-      tells = λ S c. subst (λ (x : State). Told x s'' out out'' at (lowest sixteen x) made found end) (bench_one g.was c)
-          (subst (λ (x : Option Made). Told g.held s'' out out'' at x made found end) (sym e) t);
+    found_in : {s'' out'' : List ℕ} {o : Option Made} {r : Line} → lowest sixteen g.held ≡ o → Told g.held s'' out out'' at o r → Beyond s s''
+        → Tries (lowest sixteen) s out at s'' out'' r
+    found_in {s''} {out''} {o} {r} e t b = record {
+      tells = λ S c. subst (λ (x : State). Told x s'' out out'' at (lowest sixteen x) r) (bench_one g.was c)
+          (subst (λ (x : Option Made). Told g.held s'' out out'' at x r) (sym e) t);
       beyond = b;
     }
 
     -- no thread can
-    pub seeking_end : n ≤ j → Tries (lowest sixteen) s out at s' out' false false at
+    pub seeking_end : n ≤ j → Tries (lowest sixteen) s out at s' out' None
     unfolding first_of
     seeking_end h =
         let e : n - j ≡ 0 = omega arith in
         found_in (g.seek ∙ rw e) (stays g.bench g.same) g.beyond
 
-    module _ (h : j < n) {s'' out'' : List ℕ} {made found : Bool} {end : ℕ} (t : Tries (λ S. tried sixteen S j) s' out' at s'' out'' made found end) where
-      abbrev Said : Option Made → Bool → Bool → ℕ → Type 0
-      Said o m f e = Told g.held s'' out out'' at o m f e
+    module _ (h : j < n) {s'' out'' : List ℕ} {r : Line} (t : Tries (λ S. tried sixteen S j) s' out' at s'' out'' r) where
+      abbrev Said : Option Made → Line → Type 0
+      Said o l = Told g.held s'' out out'' at o l
 
-      tell : Said (tried sixteen g.held j) made found end
-      tell = subst (λ (x : List ℕ). Told g.held s'' x out'' at (tried sixteen g.held j) made found end) g.same (t.tells g.held g.bench)
+      tell : Said (tried sixteen g.held j) r
+      tell = subst (λ (x : List ℕ). Told g.held s'' x out'' at (tried sixteen g.held j) r) g.same (t.tells g.held g.bench)
 
       further : Beyond s s''
       further = beyond_then g.beyond t.beyond
@@ -115,20 +115,20 @@ module _ {s out : List ℕ} {at n : ℕ} where
       more o q = let e : n - j ≡ suc (n - (j + 1)) = omega arith in g.seek ∙ rw (e, first_of) (rw q)
 
       -- thread j can
-      pub seeking_found : made ≡ true → Tries (lowest sixteen) s out at s'' out'' made found end
-      seeking_found q = by (tried sixteen g.held j) refl tell q
+      pub seeking_found : is_some r ≡ true → Tries (lowest sixteen) s out at s'' out'' r
+      seeking_found q = by (tried sixteen g.held j) refl r tell q
         where
-          by : (o : Option Made) → tried sixteen g.held j ≡ o → {m f : Bool} {e : ℕ} → Said o m f e → m ≡ true → Tries (lowest sixteen) s out at s'' out'' m f e
-          by none w (stays b e) z = no_true z
-          by (some m) w (goes_on line b x p l) z = found_in (more (some m) w) (goes_on line b x p l) further
-          by (some m) w (ends line b x p l) z = found_in (more (some m) w) (ends line b x p l) further
+          by : (o : Option Made) → tried sixteen g.held j ≡ o → (l : Line) → Said o l → is_some l ≡ true → Tries (lowest sixteen) s out at s'' out'' l
+          by none w _ (stays b e) z = no_true z
+          by (some m) w _ (goes_on line b x p l) z = found_in (more (some m) w) (goes_on line b x p l) further
+          by (some m) w _ (ends line b x p l) z = found_in (more (some m) w) (ends line b x p l) further
 
       -- it cannot
-      pub seeking_on : made ≡ false → Seeking s out at n s'' out'' (j + 1)
-      seeking_on q = by (tried sixteen g.held j) refl tell q
+      pub seeking_on : is_some r ≡ false → Seeking s out at n s'' out'' (j + 1)
+      seeking_on q = by (tried sixteen g.held j) refl r tell q
         where
-          by : (o : Option Made) → tried sixteen g.held j ≡ o → {m f : Bool} {e : ℕ} → Said o m f e → m ≡ false → Seeking s out at n s'' out'' (j + 1)
-          by none w (stays b e) z = record {
+          by : (o : Option Made) → tried sixteen g.held j ≡ o → (l : Line) → Said o l → is_some l ≡ false → Seeking s out at n s'' out'' (j + 1)
+          by none w _ (stays b e) z = record {
             turn = omega arith;
             held = g.held;
             was = g.was;
@@ -138,5 +138,5 @@ module _ {s out : List ℕ} {at n : ℕ} where
             space = g.space;
             beyond = further;
           }
-          by (some m) w (goes_on line b x p l) z = no_true (sym z)
-          by (some m) w (ends line b x p l) z = no_true (sym z)
+          by (some m) w _ (goes_on line b x p l) z = no_true (sym z)
+          by (some m) w _ (ends line b x p l) z = no_true (sym z)

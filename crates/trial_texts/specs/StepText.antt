@@ -1,8 +1,10 @@
 -- The lines of steps: what came of trying a thread, and a text that is written line by line.
-use Rattle.std.specs.Prelude.{◌≡◌, Bool, false, ℕ, ◌+◌, ◌≤◌, length, take}
+use Rattle.std.specs.Prelude.{◌≡◌, ℕ, ◌+◌, ◌≤◌, length, take, Some, None}
+use Rattle.std.specs.Prelude as code
+use Rattle.std.specs.declared.ops.ControlFlow.{ControlFlow}
+use Rattle.std.specs.declared.ops.ControlFlow.TheVariants.{Continue, Break}
 use Rattle.std.proofs.Math.Path.{refl, subst}
 use Rattle.std.proofs.Common.{sym, arith}
-use Rattle.std.proofs.Math.Bool.{true}
 use mathlib.Core.List.{List, ◌++◌}
 use Rattle.std.proofs.Math.Option.{Option, none, some}
 use Rattle.std.proofs.Math.ListN.{length-append}
@@ -37,14 +39,13 @@ NotBetween NoRace = Unit {0}
 NotBetween BufferShort = Unit {0}
 NotBetween NoState = Unit {0}
 
--- the race, or nothing; `end` is the place after it, and `found` whether there was one
-pub data Raced (out out' : List ℕ) (at : ℕ) : Option Race → (found : Bool) (end : ℕ) → Type 0 where
-  between : {r : Race} {end : ℕ} → Put out out' at (race_line r.first r.second r.cell) end → Raced out out' at (some r) true end
-  quiet : out' ≡ out → Raced out out' at none false at
+-- the race, behind whose line the text ends; or nothing, and it goes on from where it was
+pub data Raced (out out' : List ℕ) (at : ℕ) : Option Race → ControlFlow ℕ ℕ → Type 0 where
+  between : {r : Race} {end : ℕ} → Put out out' at (race_line r.first r.second r.cell) end → Raced out out' at (some r) (Break end)
+  quiet : out' ≡ out → Raced out out' at none (Continue at)
 
-pub record Races (s out : List ℕ) (at : ℕ) (out' : List ℕ) (made found : Bool) (end : ℕ) : Type 0 where
-  pub was_made : made ≡ true
-  pub tells : (S : State) → Bench s S → Raced out out' at (race 0 S.threads) found end
+pub record Races (s out : List ℕ) (at : ℕ) (out' : List ℕ) (r : ControlFlow ℕ ℕ) : Type 0 where
+  pub tells : (S : State) → Bench s S → Raced out out' at (race 0 S.threads) r
 
 -- its length: `race `, two threads and a cell
 pub race_length : {S : State} {s : List ℕ} {r : Race} → Bench s S → race 0 S.threads ≡ some r → length (race_line r.first r.second r.cell) ≤ 14
@@ -62,35 +63,37 @@ module _ {s out : List ℕ} {at : ℕ} {t : Found} (f : Finds s t) where
       omega arith
 
   pub races_between : {i j c : ℕ} {out' : List ℕ} {end : ℕ} → Ready 14 s out at → t ≡ Between i j c → Written (take at out ++ race_line i j c) out out' end
-      → Races s out at out' true true end
+      → Races s out at out' (Break end)
   races_between {out' = out'} {end} w e p = record {
-    was_made = refl;
-    tells = λ S b. subst (λ (o : Option Race). Raced out out' at o true end) (sym (race_between b (subst (Finds s) e f))) (between (written_put (between_room w e) p));
+    tells = λ S b. subst (λ (o : Option Race). Raced out out' at o (Break end)) (sym (race_between b (subst (Finds s) e f))) (between (written_put (between_room w e) p));
   }
 
 -- a state has a race or none, whatever else the finder could say
-pub races_none : {s out : List ℕ} {at : ℕ} {t : Found} → Finds s t → Ready 14 s out at → NotBetween t → Races s out at out true false at
+pub races_none : {s out : List ℕ} {at : ℕ} {t : Found} → Finds s t → Ready 14 s out at → NotBetween t → Races s out at out (Continue at)
 races_none {t = Between i j c} f w n = absurd n
 races_none {out = out} {at} {t = NoRace} f w n = record {
-  was_made = refl;
-  tells = λ S b. subst (λ (o : Option Race). Raced out out at o false at) (sym (race_none b f)) (quiet refl);
+  tells = λ S b. subst (λ (o : Option Race). Raced out out at o (Continue at)) (sym (race_none b f)) (quiet refl);
 }
 races_none {t = BufferShort} f w n = absurd (race_long w.bench f)
 races_none {t = NoState} f w n = absurd (race_state w.bench f)
 
 -- ---- what came of trying a thread
 
+-- what the code tells of it: where the text ends, or goes on; nothing where there was no step
+abbrev pub Line : Type 0
+Line = code.Option (ControlFlow ℕ ℕ)
+
 -- the step m, or none: the line that it printed, which the race ends or the rest follows, and the state that the buffer s' then holds
-pub data Told (S : State) (s' out out' : List ℕ) (at : ℕ) : Option Made → (made found : Bool) (end : ℕ) → Type 0 where
-  stays : Bench s' S → out' ≡ out → Told S s' out out' at none false false at
+pub data Told (S : State) (s' out out' : List ℕ) (at : ℕ) : Option Made → Line → Type 0 where
+  stays : Bench s' S → out' ≡ out → Told S s' out out' at none None
   goes_on : {m : Made} {end : ℕ} (line : List ℕ) → Bench s' m.after → ((rest : List ℕ) → step_text m rest ≡ line ++ rest)
-      → Put out out' at line end → length line ≤ 9 → Told S s' out out' at (some m) true false end
+      → Put out out' at line end → length line ≤ 9 → Told S s' out out' at (some m) (Some (Continue end))
   ends : {m : Made} {end : ℕ} (line : List ℕ) → Bench s' m.after → ((rest : List ℕ) → step_text m rest ≡ line)
-      → Put out out' at line end → length line ≤ 23 → Told S s' out out' at (some m) true true end
+      → Put out out' at line end → length line ≤ 23 → Told S s' out out' at (some m) (Some (Break end))
 
 -- `pick` says which step is tried
-pub record Tries (pick : State → Option Made) (s out : List ℕ) (at : ℕ) (s' out' : List ℕ) (made found : Bool) (end : ℕ) : Type 0 where
-  pub tells : (S : State) → Bench s S → Told S s' out out' at (pick S) made found end
+pub record Tries (pick : State → Option Made) (s out : List ℕ) (at : ℕ) (s' out' : List ℕ) (r : Line) : Type 0 where
+  pub tells : (S : State) → Bench s S → Told S s' out out' at (pick S) r
   pub beyond : Beyond s s'
 
 pub made_by : {s s' : List ℕ} {i k n : ℕ} {r : Step} → Steps s i s' r → r ≡ Made_step k n → Steps s i s' (Made_step k n)
@@ -98,11 +101,11 @@ made_by {s} {s'} {i} a e = subst (Steps s i s') e a
 
 module _ {s out : List ℕ} {at i : ℕ} {s' : List ℕ} (w : Ready 23 s out at) where
   -- no step
-  pub tries_none : {r : Step} → Steps s i s' r → NotMade r → Tries (λ S. tried sixteen S i) s out at s' out false false at
+  pub tries_none : {r : Step} → Steps s i s' r → NotMade r → Tries (λ S. tried sixteen S i) s out at s' out None
   tries_none a n = record {
     tells = λ S b.
         let u = step_unmade b a n in
-        subst (λ (o : Option Made). Told S s' out out at o false false at) (sym u.try) (stays (subst (λ (x : List ℕ). Bench x S) (sym u.same) b) refl);
+        subst (λ (o : Option Made). Told S s' out out at o None) (sym u.try) (stays (subst (λ (x : List ℕ). Bench x S) (sym u.same) b) refl);
     beyond = subst (Beyond s) (sym (step_unmade w.bench a n).same) (beyond_same s);
   }
 
@@ -131,19 +134,17 @@ module _ {s out : List ℕ} {at i : ℕ} {s' : List ℕ} (w : Ready 23 s out at)
         space = let l = line_length in let h = w.space in let e = line.end in let f = put_length line in omega arith;
       }
 
-      pub tries_made : {out' : List ℕ} {made found : Bool} {end : ℕ} → Races s' out₁ next out' made found end
-          → Tries (λ S. tried sixteen S i) s out at s' out' made found end
+      pub tries_made : {out' : List ℕ} {r : ControlFlow ℕ ℕ} → Races s' out₁ next out' r → Tries (λ S. tried sixteen S i) s out at s' out' (Some r)
       unfolding step_text
-      tries_made {out'} {made} {found} {end} q = record { tells = tell; beyond = moved.beyond }
+      tries_made {out'} {r} q = record { tells = tell; beyond = moved.beyond }
         where
-          tell : (S : State) → Bench s S → Told S s' out out' at (tried sixteen S i) made found end
+          tell : (S : State) → Bench s S → Told S s' out out' at (tried sixteen S i) (Some r)
           tell S b =
               let v = step_made b a in
-              subst (λ (x : Bool). Told S s' out out' at (tried sixteen S i) x found end) (sym q.was_made)
-              (subst (λ (o : Option Made). Told S s' out out' at o true found end) (sym v.try) (by v.bench (race 0 v.after.threads) refl (q.tells v.after v.bench)))
+              subst (λ (o : Option Made). Told S s' out out' at o (Some r)) (sym v.try) (by v.bench (race 0 v.after.threads) refl (q.tells v.after v.bench))
             where
-              by : {T : State} → Bench s' T → (o : Option Race) → race 0 T.threads ≡ o → {f : Bool} {e : ℕ} → Raced out₁ out' next o f e
-                  → Told S s' out out' at (some (made_in T)) true f e
+              by : {T : State} → Bench s' T → (o : Option Race) → race 0 T.threads ≡ o → {e : ControlFlow ℕ ℕ} → Raced out₁ out' next o e
+                  → Told S s' out out' at (some (made_in T)) (Some e)
               by {T} b (some r) e (between x) =
                   ends {m = made_in T} (three i k n ++ race_line r.first r.second r.cell) b (λ rest. rw e) (put_then line x)
                   (omega (arith, length-append (three i k n) (race_line r.first r.second r.cell), race_length b e, line_length))

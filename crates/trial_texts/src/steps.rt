@@ -10,49 +10,35 @@ use crate::lines::{race_line, three};
 use machine::step::Step;
 use places::byte_at;
 use states::races::Race;
+use std::ops::ControlFlow;
 
-// What came of trying a thread: where its text ends, whether it stepped, and whether the text ends in the race's line.
-#[derive(Clone, Copy)]
-pub(crate) struct Line {
-    pub end: usize,
-    pub made: bool,
-    pub race: bool,
-}
-
-// The race's line, if there is one after a step.
-fn after_step(state: &[u8], out: &mut [u8], at: usize) -> Line
+// The race's line, if there is one after a step: the text ends behind it, or goes on from where it was.
+fn after_step(state: &[u8], out: &mut [u8], at: usize) -> ControlFlow<usize, usize>
     requires { Ready 14 state.now out.old at }
-    ensures { Races state.now out.old at out.new result.made result.race result.end }
+    ensures { Races state.now out.old at out.new result }
 {
     let Race::Between(i, j, c) = states::race(state) else {
-        return Line {
-            end: at,
-            made: true,
-            race: false,
-        };
+        return ControlFlow::Continue(at);
     };
     let end = race_line(i, j, c, out, at);
-    Line {
-        end,
-        made: true,
-        race: true,
-    }
+    ControlFlow::Break(end)
 }
 
-// The step of a thread, and the race after it.
-fn step_line(state: &mut [u8], thread: u64, out: &mut [u8], at: usize) -> Line
+// The line of a thread's step, and the race after it; none where it makes no step.
+fn step_line(
+    state: &mut [u8],
+    thread: u64,
+    out: &mut [u8],
+    at: usize,
+) -> Option<ControlFlow<usize, usize>>
     requires { Ready 23 state.old out.old at }
-    ensures { Tries (λ S. tried sixteen S thread) state.old out.old at state.new out.new result.made result.race result.end }
+    ensures { Tries (λ S. tried sixteen S thread) state.old out.old at state.new out.new result }
 {
     let Step::Made(kind, number) = machine::entry::step(state, thread) else {
-        return Line {
-            end: at,
-            made: false,
-            race: false,
-        };
+        return None;
     };
     let next = three(thread, kind as u64, number as u64, out, at);
-    after_step(state, out, next)
+    Some(after_step(state, out, next))
 }
 
 // The steps of a schedule. The answer is the place after their text.
@@ -61,33 +47,31 @@ pub(crate) fn schedule_text(schedule: &[u8], state: &mut [u8], out: &mut [u8], a
     ensures { Prints (schedule_text sixteen schedule.now) state.old out.old at state.new out.new result }
 {
     let mut end = at;
-    for i in 0..schedule.len() {
-        let line = step_line(state, schedule[i] as u64, out, end);
-        end = line.end;
-        if line.race {
-            return end;
+    for thread in schedule {
+        let Some(line) = step_line(state, u64::from(*thread), out, end) else {
+            continue;
+        };
+        match line {
+            ControlFlow::Continue(next) => end = next,
+            ControlFlow::Break(last) => return last,
         }
     }
     end
 }
 
-// The step of the lowest-numbered thread that can.
-fn lowest_line(state: &mut [u8], out: &mut [u8], at: usize) -> Line
+// The line of the lowest-numbered thread that can step.
+fn lowest_line(state: &mut [u8], out: &mut [u8], at: usize) -> Option<ControlFlow<usize, usize>>
     requires { Ready 23 state.old out.old at }
-    ensures { Tries (lowest sixteen) state.old out.old at state.new out.new result.made result.race result.end }
+    ensures { Tries (lowest sixteen) state.old out.old at state.new out.new result }
 {
     let count = byte_at(state, 3) as u64;
     for thread in 0..count {
         let line = step_line(state, thread, out, at);
-        if line.made {
+        if line.is_some() {
             return line;
         }
     }
-    Line {
-        end: at,
-        made: false,
-        race: false,
-    }
+    None
 }
 
 // The steps of the default run, limit 1,000.
@@ -97,13 +81,12 @@ pub(crate) fn default_text(state: &mut [u8], out: &mut [u8], at: usize) -> usize
 {
     let mut end = at;
     for turn in 0..1000usize {
-        let line = lowest_line(state, out, end);
-        end = line.end;
-        if line.race {
+        let Some(line) = lowest_line(state, out, end) else {
             return end;
-        }
-        if !line.made {
-            return end;
+        };
+        match line {
+            ControlFlow::Continue(next) => end = next,
+            ControlFlow::Break(last) => return last,
         }
     }
     end

@@ -21,8 +21,7 @@ fn image_length(input: &[u8]) -> usize
     if input.len() < 2 {
         return input.len();
     }
-    let n = two_at(input, 0) + 2;
-    if input.len() < n { input.len() } else { n }
+    (two_at(input, 0) + 2).min(input.len())
 }
 
 // Where the schedule ends that begins behind the image.
@@ -30,11 +29,7 @@ fn schedule_end(input: &[u8], from: usize) -> usize
     requires { from ≤ length input.now }
     ensures { Schedule input.now from result }
 {
-    if input.len() - from < 8192 {
-        input.len()
-    } else {
-        from + 8192
-    }
+    from + (input.len() - from).min(8192)
 }
 
 // The steps of the schedule, or of the default run where there is none.
@@ -42,7 +37,7 @@ fn run_text(schedule: &[u8], state: &mut [u8], out: &mut [u8], at: usize) -> usi
     requires { RunReady schedule.now state.old out.old at }
     ensures { Prints (run_text sixteen schedule.now) state.old out.old at state.new out.new result }
 {
-    if schedule.len() == 0 {
+    if schedule.is_empty() {
         return default_text(state, out, at);
     }
     schedule_text(schedule, state, out, at)
