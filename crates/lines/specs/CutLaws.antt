@@ -50,6 +50,8 @@ module _ (b : ℕ) (s : List ℕ) (n : ℕ) (u : Until b s n) where
   pub after_none : length s ≤ n → [] ≡ after_first b s
   after_none h = sym (drop_of_length-le s (omega (arith, u.says)))
 
+pub ruleset cuts = (first_found, first_missed, before_none, after_some, after_none)
+
 -- by which a loop over the lines of s ends, where it has come to `from`
 pub before_short : (b : ℕ) (s : List ℕ) (from : ℕ) → length (before_first b (take (length s - from) (drop from s))) ≤ length s - from
 before_short b s from = simp (length-take, length-drop) (omega arith)

@@ -36,6 +36,8 @@ module _ (n : ℕ) (s : List ℕ) (i : ℕ) where
   number_on h a b l =
       rw (drop-cons s i 0 h, le-leb 48 (get_or s i 0) a, le-leb (get_or s i 0) 57 b, le-leb (n * 10 + (get_or s i 0 - 48)) 18446744073709551615 l, add-one)
 
+pub ruleset number_ways = (number_none, number_starts, number_ends, number_off, number_on)
+
 -- each range of bytes
 module _ (b : ℕ) where
   pub digit_number : 48 ≤ b → b ≤ 57 → Digit b (Some (b - 48))
@@ -59,6 +61,8 @@ module _ (b : ℕ) where
   pub digit_above : 70 < b → Digit b None
   unfolding digit_of
   digit_above h = record { says = rw (le-leb 48 b (omega arith), lt-leb b 57 (omega arith), le-leb 65 b (omega arith), lt-leb b 70 h) }
+
+pub ruleset digit_ways = (digit_number, digit_letter, digit_below, digit_between, digit_above)
 
 -- whether there is a value, and which
 module _ {b : ℕ} {r : Option ℕ} (d : Digit b r) where
@@ -116,6 +120,8 @@ module _ (s out₀ out : List ℕ) (n i : ℕ) (e : out ≡ paste out₀ 0 (spel
       ap (λ (k : ℕ). set (paste out₀ 0 (spelled s) i) k (get_or (spelled s) i 0)) (sym (zero-add i))
       ∙ paste-suc out₀ 0 (spelled s) i 0 (omega arith) (omega (arith, spelled_length s n two)) in
       rw (e, g, k, add-one)
+
+pub ruleset spell_ways = (digits_at, spell_long, spell_ends)
 
 -- each way round a test
 module _ (s : List ℕ) (room : ℕ) where

@@ -14,7 +14,7 @@ fn first(s: &[u8], b: u8) -> Option<usize>
 }
 
 // All of s where it has no b.
-#[tactic(auto, using(crate::specs::CutLaws::first_found, crate::specs::CutLaws::first_missed, crate::specs::CutLaws::before_none))]
+#[tactic(auto, using(crate::specs::CutLaws::cuts))]
 pub fn before(s: &[u8], b: u8) -> &[u8]
     ensures { result.now ≡ before_first b s.now }
 {
@@ -25,7 +25,7 @@ pub fn before(s: &[u8], b: u8) -> &[u8]
 }
 
 // Nothing where s has no b.
-#[tactic(auto, using(crate::specs::CutLaws::first_found, crate::specs::CutLaws::first_missed, crate::specs::CutLaws::after_some, crate::specs::CutLaws::after_none))]
+#[tactic(auto, using(crate::specs::CutLaws::cuts))]
 pub fn after(s: &[u8], b: u8) -> &[u8]
     ensures { result.now ≡ after_first b s.now }
 {

@@ -4,7 +4,7 @@ ghost use Rattle.std.proofs.Math.Seq.{paste};
 ghost use Rattle.lines.specs.Digits.{Digit, all_digits, digit_of, number_of, pair_of, spelled, Hexed, Field};
 
 // A number of 64 bits; leading zeros are taken.
-#[tactic(auto, using(crate::specs::DigitLaws::number_none, crate::specs::DigitLaws::number_starts, crate::specs::DigitLaws::number_ends, crate::specs::DigitLaws::number_off, crate::specs::DigitLaws::number_on))]
+#[tactic(auto, using(crate::specs::DigitLaws::number_ways))]
 pub fn decimal(s: &[u8]) -> Option<usize>
     ensures { result ≡ number_of s.now }
 {
@@ -21,7 +21,7 @@ pub fn decimal(s: &[u8]) -> Option<usize>
     Some(n)
 }
 
-#[tactic(auto, using(crate::specs::DigitLaws::digit_number, crate::specs::DigitLaws::digit_letter, crate::specs::DigitLaws::digit_below, crate::specs::DigitLaws::digit_between, crate::specs::DigitLaws::digit_above))]
+#[tactic(auto, using(crate::specs::DigitLaws::digit_ways))]
 fn digit(b: u8) -> Option<u8>
     ensures { Digit b result }
 {
@@ -46,7 +46,7 @@ fn pair(a: u8, b: u8) -> u8
     16 * digit(a).unwrap() + digit(b).unwrap()
 }
 
-#[tactic(auto, using(crate::specs::DigitLaws::digits_at, crate::specs::DigitLaws::spell_long, crate::specs::DigitLaws::spell_on, crate::specs::DigitLaws::spell_ends))]
+#[tactic(auto, using(crate::specs::DigitLaws::spell_ways))]
 fn spell(s: &[u8], out: &mut [u8], n: usize)
     requires { (n + n ≡ length s.now) × (n ≤ length out.old) × (all_digits s.now ≡ true) }
     ensures { out.new ≡ paste out.old 0 (spelled s.now) n }
