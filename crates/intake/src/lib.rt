@@ -9,7 +9,8 @@ use std::io;
 use std::io::Read;
 
 // Fills the buffer from the reader until it is full or the input ends, and answers how many bytes stand at its start. Fewer than it holds
-// are all that there were. After an error some bytes stand there, and no further ones are taken from the reader.
+// are all that there were. After an error some bytes stand there, and no further ones are taken from the reader. Std's `read_exact` does not say
+// how many bytes a shorter input had, and `read_to_end` needs a `Vec`, where this repository has no heap.
 pub fn fill<R: Read>(reader: &mut R, buf: &mut [u8]) -> io::Result<usize>
     ensures bound { ReadsAtMost result buf.new }
     ensures bytes { IfOk result (λ n. Consumes (R.remaining reader.old) (R.remaining reader.new) (take n buf.new)) }

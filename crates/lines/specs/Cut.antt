@@ -1,5 +1,5 @@
 -- What stands before and after the first of a byte.
-use Rattle.std.specs.Prelude.{Bool, true, false, List, [], ◌∷◌, ◌≡◌, ℕ, suc, ◌+◌, ◌≤◌, eqb, length, take, drop}
+use Rattle.std.specs.Prelude.{Bool, true, false, List, [], ◌∷◌, ◌≡◌, ℕ, suc, ◌+◌, ◌≤◌, eqb, length, take, drop, Option, position}
 
 -- one byte more before the first, unless it is the first
 abbrev pub one_more : Bool → ℕ → ℕ
@@ -10,6 +10,10 @@ one_more false n = suc n
 unfoldable pub until_first : ℕ → List ℕ → ℕ
 until_first b [] = 0
 until_first b (x ∷ s) = one_more (eqb x b) (until_first b s)
+
+-- where the first b stands
+abbrev pub first_place : ℕ → List ℕ → Option ℕ
+first_place b s = position (λ x. eqb x b) s
 
 pub record Until (b : ℕ) (s : List ℕ) (r : ℕ) : Type 0 where
   pub says : r ≡ until_first b s

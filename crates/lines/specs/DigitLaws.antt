@@ -1,15 +1,16 @@
--- One law for each way round a loop over digits, which has come to i.
-use Rattle.std.specs.Prelude.{true, false, ◌&&◌, List, [], ◌∷◌, ◌≡◌, refl, ℕ, zero, suc, ◌+◌, ◌*◌, ◌-◌, ◌/◌, ◌≤◌, ◌<◌, leb, length, get_or, drop, set}
+-- One law for each way round a test or a loop over digits, which has come to i.
+use Rattle.std.specs.Prelude.{Option, Some, None, true, false, ◌&&◌, List, [], ◌∷◌, ◌≡◌, refl, ℕ, zero, suc, ◌+◌, ◌*◌, ◌-◌, ◌/◌, ◌%◌, ◌≤◌, ◌<◌, leb, length, get_or, drop, set, Bool, is_some}
 use Rattle.std.proofs.Common.{ap, sym, ◌∙◌, arith, add-one, zero-add, drop_of_length-le, drop-cons}
 use borrow.Author.Tests.{le-leb, lt-leb, eq-eqb, ne_eqb}
+use Rattle.std.specs.List.{list_all}
+use Rattle.std.proofs.lemmas.Bool.{leb-true}
+use Rattle.std.proofs.lemmas.List.Recursion.{and_at}
 use Rattle.std.proofs.Math.Seq.{paste, paste-suc}
 use Rattle.std.proofs.lemmas.List.Edits.{length-paste}
-use Rattle.lines.specs.Digits.{number_from, number_of, digit_of, all_digits, pair_of, spelled, is_hex, hex_says, hex_leaves, Hexed}
+use Rattle.lines.specs.Digits.{choose, Digit, number_from, number_of, digit_of, all_digits, pair_of, spelled, is_hex, hex_says, hex_leaves, Hexed}
 use Rattle.lines.specs.Digits.{is_dash, field_says, field_leaves, Field}
-use Rattle.lines.specs.declared.digits.Number.{Number}
-use Rattle.lines.specs.declared.digits.Number.TheVariants.{Is, Unreadable}
 
-pub number_none : (s : List ℕ) → length s ≡ 0 → Unreadable ≡ number_of s
+pub number_none : (s : List ℕ) → length s ≡ 0 → None ≡ number_of s
 unfolding number_of
 number_none [] h = refl
 number_none (d ∷ s) h = absurd (omega arith)
@@ -20,12 +21,12 @@ number_starts [] h = absurd (omega arith)
 number_starts (d ∷ s) h = refl
 
 module _ (n : ℕ) (s : List ℕ) (i : ℕ) where
-  pub number_ends : length s ≤ i → number_from n (drop i s) ≡ Is n
+  pub number_ends : length s ≤ i → number_from n (drop i s) ≡ Some n
   unfolding number_from
   number_ends h = rw (drop_of_length-le s h)
 
   pub number_off : i < length s → leb 48 (get_or s i 0) && leb (get_or s i 0) 57 && leb (n * 10 + (get_or s i 0 - 48)) 18446744073709551615 ≡ false
-      → number_from n (drop i s) ≡ Unreadable
+      → number_from n (drop i s) ≡ None
   unfolding number_from
   number_off h e = rw (drop-cons s i 0 h, e)
 
@@ -35,18 +36,55 @@ module _ (n : ℕ) (s : List ℕ) (i : ℕ) where
   number_on h a b l =
       rw (drop-cons s i 0 h, le-leb 48 (get_or s i 0) a, le-leb (get_or s i 0) 57 b, le-leb (n * 10 + (get_or s i 0 - 48)) 18446744073709551615 l, add-one)
 
-module _ (s : List ℕ) (i : ℕ) where
-  pub digits_end : length s ≤ i → all_digits (drop i s) ≡ true
-  unfolding all_digits
-  digits_end h = rw (drop_of_length-le s h)
+pub ruleset number_ways = (number_none, number_starts, number_ends, number_off, number_on)
 
-  pub digits_off : i < length s → 15 < digit_of (get_or s i 0) → all_digits (drop i s) ≡ false
-  unfolding all_digits
-  digits_off h e = rw (drop-cons s i 0 h, lt-leb (digit_of (get_or s i 0)) 15 e)
+-- each range of bytes
+module _ (b : ℕ) where
+  pub digit_number : 48 ≤ b → b ≤ 57 → Digit b (Some (b - 48))
+  unfolding digit_of
+  digit_number h k = record { says = rw (le-leb 48 b h, le-leb b 57 k, le-leb (b - 48) 15 (omega arith)) }
 
-  pub digits_on : i < length s → digit_of (get_or s i 0) ≤ 15 → all_digits (drop i s) ≡ all_digits (drop (i + 1) s)
-  unfolding all_digits
-  digits_on h e = rw (drop-cons s i 0 h, le-leb (digit_of (get_or s i 0)) 15 e, add-one)
+  pub digit_letter : 65 ≤ b → b ≤ 70 → Digit b (Some (b - 65 + 10))
+  unfolding digit_of
+  digit_letter h k =
+      let e : b - 65 + 10 ≡ b - 55 = omega arith in
+      record { says = rw (e, le-leb 48 b (omega arith), lt-leb b 57 (omega arith), le-leb 65 b h, le-leb b 70 k, le-leb (b - 55) 15 (omega arith)) }
+
+  pub digit_below : b < 48 → Digit b None
+  unfolding digit_of
+  digit_below h = record { says = rw (lt-leb 48 b h, lt-leb 65 b (omega arith)) }
+
+  pub digit_between : 57 < b → b < 65 → Digit b None
+  unfolding digit_of
+  digit_between h k = record { says = rw (le-leb 48 b (omega arith), lt-leb b 57 h, lt-leb 65 b k) }
+
+  pub digit_above : 70 < b → Digit b None
+  unfolding digit_of
+  digit_above h = record { says = rw (le-leb 48 b (omega arith), lt-leb b 57 (omega arith), le-leb 65 b (omega arith), lt-leb b 70 h) }
+
+pub ruleset digit_ways = (digit_number, digit_letter, digit_below, digit_between, digit_above)
+
+-- whether there is a value, and which
+module _ {b : ℕ} {r : Option ℕ} (d : Digit b r) where
+  pub digit_some : is_some r ≡ leb (digit_of b) 15
+  digit_some = ap is_some d.says ∙ by (leb (digit_of b) 15)
+    where
+      by : (t : Bool) → is_some (choose t (λ _. Some (digit_of b)) (λ _. None)) ≡ t
+      by true = refl
+      by false = refl
+
+  pub digit_value : digit_of b ≤ 15 → r ≡ Some (digit_of b)
+  digit_value h = rw (d.says, le-leb (digit_of b) 15 h)
+
+-- what `all` says of the digits, and what all of them says of each
+pub all_is : (s : List ℕ) → list_all (λ b. leb (digit_of b) 15) s ≡ all_digits s
+unfolding all_digits
+all_is [] = refl
+all_is (d ∷ s) = rw (all_is s)
+
+pub digits_at : (s : List ℕ) (i : ℕ) → all_digits s ≡ true → i < length s → digit_of (get_or s i 0) ≤ 15
+unfolding all_digits
+digits_at s i h l = leb-true _ _ (and_at all_digits (λ b. leb (digit_of b) 15) refl (λ _ _. refl) s i 0 l h)
 
 pub spelled_at : (s : List ℕ) (i : ℕ) → i + i + 1 < length s
     → get_or (spelled s) i 0 ≡ pair_of (get_or s (i + i) 0) (get_or s (i + i + 1) 0)
@@ -83,26 +121,63 @@ module _ (s out₀ out : List ℕ) (n i : ℕ) (e : out ≡ paste out₀ 0 (spel
       ∙ paste-suc out₀ 0 (spelled s) i 0 (omega arith) (omega (arith, spelled_length s n two)) in
       rw (e, g, k, add-one)
 
+pub ruleset spell_ways = (digits_at, spell_long, spell_ends)
+
+-- each way round a test
+module _ (s : List ℕ) (room : ℕ) where
+  pub hex_fits : length s % 2 ≡ 0 → length s / 2 ≤ room → all_digits s ≡ true → is_hex s room ≡ true
+  unfolding is_hex
+  hex_fits a b d = rw (eq-eqb (length s % 2) 0 a, le-leb (length s / 2) room b) d
+
+  pub hex_odd : (length s % 2 ≡ 0 → ⊥) → is_hex s room ≡ false
+  unfolding is_hex
+  hex_odd a = rw (ne_eqb (length s % 2) 0 a)
+
+  pub hex_short : length s % 2 ≡ 0 → room < length s / 2 → is_hex s room ≡ false
+  unfolding is_hex
+  hex_short a b = rw (eq-eqb (length s % 2) 0 a, lt-leb (length s / 2) room b)
+
+  pub hex_other : length s % 2 ≡ 0 → length s / 2 ≤ room → all_digits s ≡ false → is_hex s room ≡ false
+  unfolding is_hex
+  hex_other a b d = rw (eq-eqb (length s % 2) 0 a, le-leb (length s / 2) room b) d
+
+module _ (s : List ℕ) where
+  pub dash_alone : 1 ≤ length s → length s < 2 → get_or s 0 0 ≡ 45 → is_dash s ≡ true
+  unfolding is_dash
+  dash_alone h k e = rw (eq-eqb (length s) 1 (omega arith), eq-eqb (get_or s 0 0) 45 e)
+
+  pub dash_short : length s < 1 → is_dash s ≡ false
+  unfolding is_dash
+  dash_short h = rw (ne_eqb (length s) 1 (λ e. omega arith))
+
+  pub dash_long : 2 ≤ length s → is_dash s ≡ false
+  unfolding is_dash
+  dash_long h = rw (ne_eqb (length s) 1 (λ e. omega arith))
+
+  pub dash_other : 1 ≤ length s → length s < 2 → (get_or s 0 0 ≡ 45 → ⊥) → is_dash s ≡ false
+  unfolding is_dash
+  dash_other h k n = rw (eq-eqb (length s) 1 (omega arith), ne_eqb (get_or s 0 0) 45 n)
+
 -- the answers of `hex` and of `bytes`
 module _ (s out : List ℕ) where
-  pub hex_off : is_hex s (length out) ≡ false → Hexed s out Unreadable out
+  pub hex_off : is_hex s (length out) ≡ false → Hexed s out None out
   unfolding hex_says hex_leaves
   hex_off e = record { says = rw e; leaves = rw e }
 
   pub hex_on : (after : List ℕ) → is_hex s (length out) ≡ true → after ≡ paste out 0 (spelled s) (length s / 2)
-      → Hexed s out (Is (length s / 2)) after
+      → Hexed s out (Some (length s / 2)) after
   unfolding hex_says hex_leaves
   hex_on after e f = record { says = rw e; leaves = rw e f }
 
-  pub field_dash : is_dash s ≡ true → Field s out (Is 0) out
+  pub field_dash : is_dash s ≡ true → Field s out (Some 0) out
   unfolding field_says field_leaves
   field_dash e = record { says = rw e; leaves = rw e }
 
-  pub field_empty : is_dash s ≡ false → length s ≡ 0 → Field s out Unreadable out
+  pub field_empty : is_dash s ≡ false → length s ≡ 0 → Field s out None out
   unfolding field_says field_leaves
   field_empty e h = record { says = rw (e, eq-eqb (length s) 0 h); leaves = rw (e, eq-eqb (length s) 0 h) }
 
-  pub field_hex : (r : Number) (after : List ℕ) → is_dash s ≡ false → (length s ≡ 0 → ⊥) → Hexed s out r after → Field s out r after
+  pub field_hex : (r : Option ℕ) (after : List ℕ) → is_dash s ≡ false → (length s ≡ 0 → ⊥) → Hexed s out r after → Field s out r after
   unfolding field_says field_leaves
   field_hex r after e h x =
       record { says = rw (e, ne_eqb (length s) 0 h) x.says; leaves = rw (e, ne_eqb (length s) 0 h) x.leaves }

@@ -1,6 +1,7 @@
 -- Bytes that are all zero, as a test.
-use Rattle.std.specs.Prelude.{◌≡◌, refl, Bool, true, false, List, [], ◌∷◌, ℕ, zero, suc, ◌+◌, ◌-◌, ◌<◌, ◌≤◌, eqb, length, take, drop}
+use Rattle.std.specs.Prelude.{◌≡◌, refl, Bool, true, false, ◌&&◌, List, [], ◌∷◌, ℕ, zero, suc, ◌+◌, ◌-◌, ◌<◌, ◌≤◌, eqb, length, take, drop}
 use Rattle.std.proofs.Common.{sym, ap, ◌∙◌, arith, length-take, get_or-take, get_or-drop, eqb-true, eq-eqb, below_more}
+use Rattle.std.proofs.lemmas.Bool.{eqb-false}
 use Rattle.paper.specs.Base.{at}
 use Rattle.paper.specs.States.{all}
 use Rattle.paper.specs.Known.{no_true, split}
@@ -41,6 +42,14 @@ clear_off s i n = record { yes = λ e. no_true e; no = λ e. not_clear s i n }
 
 pub clear_on : {s : List ℕ} {i : ℕ} {r : Bool} → ClearTo s i r → at s i ≡ 0 → ClearTo s (i + 1) r
 clear_on {s} {i} c z = record { yes = λ e. below_more (λ k. at s k ≡ 0) i (c.yes e) z; no = c.no }
+
+pub clear_more : {s : List ℕ} {i : ℕ} {r : Bool} → ClearTo s i r → ClearTo s (i + 1) (r && eqb (at s i) 0)
+clear_more {s} {i} c = by _ (eqb (at s i) 0) refl c
+  where
+    by : (r b : Bool) → eqb (at s i) 0 ≡ b → ClearTo s i r → ClearTo s (i + 1) (r && b)
+    by true true e h = clear_on h (eqb-true (at s i) 0 e)
+    by true false e h = clear_off s i (eqb-false (at s i) 0 e)
+    by false b e h = record { yes = λ n. no_true n; no = h.no }
 
 pub clear_end : {s : List ℕ} {i : ℕ} {r : Bool} → length s ≤ i → ClearTo s i r → r ≡ clear_bytes s
 clear_end {s} {r = true} h c = sym (at_clear s (λ k l. c.yes refl k (omega arith)))

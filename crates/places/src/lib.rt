@@ -10,38 +10,37 @@ ghost use Rattle.places.specs.Put.{Puts};
 pub fn byte_at(s: &[u8], k: usize) -> u8
     ensures { result ≡ at s.now k }
 {
-    if k < s.len() { s[k] } else { 0 }
+    s.get(k).copied().unwrap_or(0)
 }
 
 // The number that the two bytes at k say.
 pub fn two_at(s: &[u8], k: usize) -> usize
     ensures { result ≡ word16 s.now k }
 {
-    if s.len() <= k {
+    let Some(high) = s.get(k) else {
         return 0;
-    }
-    let high = s[k] as usize;
-    let low = byte_at(s, k + 1) as usize;
-    high * 256 + low
+    };
+    let low = byte_at(s, k + 1);
+    usize::from(*high) * 256 + usize::from(low)
 }
 
 pub fn put_byte(s: &mut [u8], k: usize, b: u8)
     ensures { Puts k b s.old s.new }
 {
+    // Not `get_mut(k)`: std says nothing of what the slice ends as behind it.
     if k < s.len() {
         s[k] = b;
     }
 }
 
 // Whether there is no byte but 0. All are looked at, so that many can be at once.
+#[tactic(auto, using(crate::specs::Clear::clear_more, crate::specs::Clear::clear_end))]
 pub fn is_clear(part: &[u8]) -> bool
     ensures { result ≡ clear_bytes part.now }
 {
     let mut clear = true;
-    for i in 0..part.len() {
-        if part[i] != 0 {
-            clear = false;
-        }
+    for b in part {
+        clear &= *b == 0;
     }
     clear
 }

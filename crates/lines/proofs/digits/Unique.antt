@@ -2,11 +2,11 @@
 -- other public functions are equations of the answer.
 use mathlib.Core.Path.{◌≡◌, sym, ◌∙◌}
 use mathlib.Core.List.{List}
+use Rattle.std.specs.Prelude.{Option}
 use Prim.Native.Nat.{ℕ}
-use Rattle.lines.specs.declared.digits.Number.{Number}
 use Rattle.lines.specs.Digits.{Hexed, Field}
 
-module _ {s before : List ℕ} {r q : Number} {after after' : List ℕ} where
+module _ {s before : List ℕ} {r q : Option ℕ} {after after' : List ℕ} where
   pub hexed_unique : Hexed s before r after → Hexed s before q after' → (r ≡ q) × (after ≡ after')
   hexed_unique h k = (h.says ∙ sym k.says, h.leaves ∙ sym k.leaves)
 
