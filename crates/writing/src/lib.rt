@@ -60,6 +60,7 @@ pub fn number(n: u64, end: u8, dst: &mut [u8], at: usize) -> usize
 }
 
 // A hex digit, in capitals.
+#[tactic(auto, unfolding(paper::specs::Texts::hex_digit))]
 fn hex_digit(d: u8) -> u8
     requires { d < 16 }
     ensures { result ≡ hex_digit d }
@@ -72,8 +73,8 @@ pub fn hex(bytes: &[u8], dst: &mut [u8], at: usize) -> usize
     ensures { Written (take at dst.old ++ hex bytes.now) dst.old dst.new result }
 {
     let mut next = at.min(dst.len());
-    for b in bytes {
-        next = fill(&[hex_digit(*b / 16), hex_digit(*b % 16)], dst, next);
+    for &b in bytes {
+        next = fill(&[hex_digit(b / 16), hex_digit(b % 16)], dst, next);
     }
     next
 }
