@@ -1,11 +1,14 @@
 -- Bytes that are written first into a lent buffer, as far as there is room, with the rest of it as it was: what every function that writes behind
 -- what stands there says of it. The answer is how many bytes, or one more than the buffer has where they do not fit.
-use Rattle.std.specs.Prelude.{◌≡◌, refl, Bool, true, false, ℕ, ◌+◌, ◌-◌, ◌<◌, ◌≤◌, min, leb, get_or, set, take}
-use Rattle.std.proofs.Common.{sym, ◌∙◌, add-one, arith, length-set, drop_of_length-le, take-append-drop, drop-drop, le-leb, leb-true, leb-false}
+use Rattle.std.specs.Prelude.{◌≡◌, refl, Bool, true, false, ℕ, ◌+◌, ◌-◌, ◌<◌, ◌≤◌, min, leb, take}
+use Rattle.std.proofs.Common.{sym, ◌∙◌, arith, drop_of_length-le, take-append-drop, drop-drop, le-leb, leb-true, leb-false}
 use Rattle.std.proofs.Math.Path.{ap, subst}
 use mathlib.Core.List.{List, [], ◌++◌, append_assoc, append-nil}
 use Rattle.std.proofs.Math.ListN.{length, drop, length-append, length-drop}
-use Rattle.std.proofs.Math.Seq.{take-append-le, take-append_seam, take_all, take-append-add, drop-append_seam, length-take-le, paste, paste-zero, paste-suc}
+use Rattle.std.proofs.Math.Seq.{take-append-le, take-append_seam, take_all, take-append-add, drop-append_seam, length-take-le, paste}
+use Rattle.std.proofs.lemmas.Slice.{put_mid-paste}
+use Rattle.std.proofs.lemmas.List.Edits.{length-paste}
+use borrow.Rule.Slice.PartMut.{put_mid}
 use Rattle.std.proofs.lemmas.Bool.{lt-leb}
 use Rattle.paper.specs.Base.{choose}
 use Rattle.paper.specs.Calls.{laid}
@@ -185,7 +188,7 @@ module _ (s : List ℕ) (n k : ℕ) (e : k ≡ min n (length s)) where
   pub cut_written : (v : List ℕ) {d : List ℕ} {r : ℕ} → Written (take k s ++ v) s d r → Written (take n s ++ v) s d r
   cut_written v {d} {r} = subst (λ (x : List ℕ). Written (x ++ v) s d r) cut_first
 
--- ---- the loop of `fill`
+-- ---- the copy in `fill`
 
 -- i of the n bytes of v that there is room for stand in d' from `at` on, which else is as d was
 pub record Filling (v d : List ℕ) (at n : ℕ) (d' : List ℕ) (i : ℕ) : Type 0 where
@@ -222,18 +225,14 @@ module _ (v d : List ℕ) (at : ℕ) (h : at ≤ length d) where
       }
 
   module _ (n : ℕ) (en : n ≡ min (length v) (length d - at)) where
-    pub filling_start : Filling v d at n d 0
-    filling_start = record { few = omega arith; long = refl; bytes = paste-zero d at v }
+    pub filling_copied : {p : List ℕ} → p ≡ take n v → Filling v d at n (put_mid at (at + n - at) d p) n
+    filling_copied {p} e =
+        let l = length-take-le n v (omega arith) in
+        let k : n ≡ at + n - at = omega arith in
+        let b = put_mid-paste at (at + n - at) d p (take n v) n e k (sym l) ∙ ap (λ (y : List ℕ). (take at d ++ y) ++ drop (at + n) d) (take_all n (take n v) (omega arith)) in
+        record { few = omega arith; long = ap length b ∙ length-paste d at v n (omega arith) (omega arith); bytes = b }
 
     module _ {d' : List ℕ} {i : ℕ} (f : Filling v d at n d' i) where
-      pub filling_on : i < n → Filling v d at n (set d' (at + i) (get_or v i 0)) (i + 1)
-      filling_on l = record {
-        few = omega arith;
-        long = length-set d' (at + i) (get_or v i 0) ∙ f.long;
-        bytes = ap (λ (y : List ℕ). set y (at + i) (get_or v i 0)) f.bytes ∙ paste-suc d at v i 0 (omega arith) (omega arith)
-            ∙ ap (paste d at v) (sym (add-one i));
-      }
-
       pub filling_short : n ≤ i → n < length v → Written (take at d ++ v) d d' (length d' + 1)
       filling_short l m =
           let b = f.few in

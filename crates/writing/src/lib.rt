@@ -12,20 +12,16 @@ ghost use Rattle.writing.specs.Digits.{ended};
 pub fn least(a: usize, b: usize) -> usize
     ensures { result ≡ min a b }
 {
-    if a < b { a } else { b }
+    a.min(b)
 }
 
 // v into dst from `at` on.
 pub fn fill(v: &[u8], dst: &mut [u8], at: usize) -> usize
     ensures { Written (take at dst.old ++ v.now) dst.old dst.new result }
 {
-    let from = least(at, dst.len());
-    let n = least(v.len(), dst.len() - from);
-    let mut i = 0;
-    while i < n {
-        dst[from + i] = v[i];
-        i += 1;
-    }
+    let from = at.min(dst.len());
+    let n = v.len().min(dst.len() - from);
+    dst[from..from + n].copy_from_slice(&v[..n]);
     if n < v.len() {
         return dst.len() + 1;
     }
@@ -47,7 +43,7 @@ pub fn fill_both(v: &[u8], w: &[u8], dst: &mut [u8], at: usize) -> usize
 fn digits(n: u64, dst: &mut [u8], at: usize) -> usize
     ensures { Written (take at dst.old ++ decimal n) dst.old dst.new result }
 {
-    let last = [48 + (n % 10) as u8];
+    let last = [b'0' + (n % 10) as u8];
     if n < 10 {
         return fill(&last, dst, at);
     }
@@ -64,20 +60,20 @@ pub fn number(n: u64, end: u8, dst: &mut [u8], at: usize) -> usize
 }
 
 // A hex digit, in capitals.
+#[tactic(auto, unfolding(paper::specs::Texts::hex_digit))]
 fn hex_digit(d: u8) -> u8
     requires { d < 16 }
     ensures { result ≡ hex_digit d }
 {
-    if d < 10 { 48 + d } else { 55 + d }
+    if d < 10 { b'0' + d } else { b'A' - 10 + d }
 }
 
 // Bytes as pairs of hex digits.
 pub fn hex(bytes: &[u8], dst: &mut [u8], at: usize) -> usize
     ensures { Written (take at dst.old ++ hex bytes.now) dst.old dst.new result }
 {
-    let mut next = least(at, dst.len());
-    for i in 0..bytes.len() {
-        let b = bytes[i];
+    let mut next = at.min(dst.len());
+    for &b in bytes {
         next = fill(&[hex_digit(b / 16), hex_digit(b % 16)], dst, next);
     }
     next
