@@ -28,8 +28,10 @@ fn pass(s: &[u8], nl: usize, nc: usize, stack: &mut [u8]) -> Option<usize>
     let mut next = Some(Part { d: 0, sp: 0 });
     let mut n: usize = 0;
     let mut i: usize = 0;
-    while i < s.len() {
-        let part = next?;
+    while let Some(part) = next {
+        if s.len() <= i {
+            return None;
+        }
         let c = s[i];
         if !is_code(c) {
             return None;
@@ -48,10 +50,10 @@ fn pass(s: &[u8], nl: usize, nc: usize, stack: &mut [u8]) -> Option<usize>
         next = after(stack, part, c);
         i += w + 1;
     }
-    match next {
-        None => Some(n),
-        Some(_) => None,
+    if i < s.len() {
+        return None;
     }
+    Some(n)
 }
 
 // The same on a stack that may be longer, which is left with zeros where it was used; None where it is shorter than the slot.

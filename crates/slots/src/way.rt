@@ -16,7 +16,9 @@ pub struct Reached {
     pub second: Option<usize>,
 }
 
-// The part into which evaluation goes on from the code at p; p itself where it goes no further.
+// The part into which evaluation goes on from the code at p; p itself where it goes no further. Inlined, so that the answer, which is asked for
+// at each code of the way, does not go through memory.
+#[inline(always)]
 pub(crate) fn onward(s: &[u8], p: usize) -> Reached
     requires { p < length s.now }
     ensures { Onward s.now p result.at result.second }
