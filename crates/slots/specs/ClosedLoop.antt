@@ -1,5 +1,5 @@
 -- The loop of the pass for closed expressions: what holds at its head, and a law for each way round it and out of it.
-use Rattle.std.specs.Prelude.{◌≡◌, Bool, get_or, drop}
+use Rattle.std.specs.Prelude.{◌≡◌, Bool, get_or, drop, Option, Some, None, is_none}
 use Rattle.std.proofs.Math.Path.{refl, sym, ap}
 use Rattle.std.proofs.Common.{◌∙◌, subst, drop_of_length-le, drop-cons, drop-drop, get_or-drop, lt-ltb, le-ltb}
 use Rattle.std.proofs.Math.Bool.{true, false}
@@ -12,6 +12,8 @@ use Rattle.slots.specs.Codes.{is_code, kids_of, field_of, open_of, open≤}
 use Rattle.slots.specs.Due.{Due, due, done, after, stack_of, due_of, push_of, Stacked, parts, binders, bound, after_counts, room}
 use Rattle.slots.specs.Closed.{field_ok, ok, is_closed, twelves, closed_count, ok_fits, closed_in, Closed}
 use Rattle.slots.specs.Lent.{swept, swept_none}
+use Rattle.slots.specs.Part.{under, height, at_some, at_none}
+use Rattle.slots.specs.declared.stack.Part.{Part}
 
 -- ---- from code to code
 
@@ -89,6 +91,15 @@ passing_start nl nc s stack e = record {
   deep = omega arith;
   inside = omega arith;
 }
+
+-- by what the code has of what comes next
+module _ {nl nc : ℕ} {s stack : List ℕ} {next : Option Part} {n i : ℕ}
+    (l : Passing nl nc s stack (is_none next) (under next) (height next) n i) where
+  pub passing_part : {p : Part} → next ≡ Some p → Passing nl nc s stack false p.d p.sp n i
+  passing_part {p} e = at_some (λ dn d sp. Passing nl nc s stack dn d sp n i) l p e
+
+  pub passing_past : next ≡ None → Passing nl nc s stack true 0 0 n i
+  passing_past e = at_none (λ dn d sp. Passing nl nc s stack dn d sp n i) l e
 
 refused : (nl nc : ℕ) (s : List ℕ) → false ≡ is_closed nl nc s → 0 ≡ closed_count nl nc s
 unfolding closed_count

@@ -1,9 +1,10 @@
 -- What each code of the erased form has, as tables by the code, which the byte functions and the functions of code look up alike: how many
 -- parts, how many bytes of its own before them, which part stands under a binder of it, where evaluation goes, and which codes are a
 -- value's (document 01, "The program image", "The running state"). Past 12 every table has its default.
-use Rattle.std.specs.Prelude.{◌≡◌, refl, Bool, cond, ◌&&◌, List, [], ◌∷◌, map, ℕ, zero, suc, ◌+◌, ◌*◌, ◌/◌, ◌%◌, ◌^◌, ◌<◌, ◌≤◌, length}
+use Rattle.std.specs.Prelude.{◌≡◌, refl, Bool, cond, ◌&&◌, List, [], ◌∷◌, map, ℕ, zero, suc, ◌+◌, ◌*◌, ◌/◌, ◌%◌, ◌^◌, ◌<◌, ◌≤◌, ltb, length}
 use Rattle.std.proofs.Math.Path.{sym, ap, subst}
-use Rattle.std.proofs.Common.{◌∙◌, true≢false, eqb→eq, ne_eqb}
+use Rattle.std.proofs.Common.{◌∙◌, true≢false, eqb→eq, ne_eqb, lt-ltb, le-ltb}
+use borrow.Author.Tests.{ltb-true, ltb-false}
 use Rattle.std.proofs.Math.Bool.{true, false}
 use native.Mathlib.Omega.{arith}
 use Rattle.std.proofs.Math.Dec.{T, leb, eqb, leb→le}
@@ -69,6 +70,10 @@ is_value c = get_or (answers value_table) c false
 -- 1 for an open section
 unfoldable pub open_of : ℕ → ℕ
 open_of c = choose (eqb c 18) (λ _. 1) (λ _. 0)
+
+-- what a table of so many bits a code, packed into one number, has for c: 0 past the last code
+unfoldable pub entry_of : (table bits c : ℕ) → ℕ
+entry_of t bits c = choose (ltb 18 c) (λ _. 0) (λ _. t / 2 ^ (bits * c) % 2 ^ bits)
 
 -- a looked-up number and the most that it can be
 pub record Told (x most r : ℕ) : Type 0 where
@@ -206,6 +211,41 @@ pub two_alone : (c : ℕ) → goes2 c ≡ true → field_of c ≡ 0
 unfolding goes2 field_of
 two_alone c e = entry_apart goes2_table field_table tt c e
 
+-- ---- the table's entry, of any byte
+
+pub entry_past : (t bits c : ℕ) → 18 < c → entry_of t bits c ≡ 0
+unfolding entry_of
+entry_past t bits c h = rw (lt-ltb 18 c h)
+
+pub entry_here : (t bits c : ℕ) → c ≤ 18 → entry_of t bits c ≡ t / 2 ^ (bits * c) % 2 ^ bits
+unfolding entry_of
+entry_here t bits c h = rw (le-ltb 18 c h)
+
+-- the divisor, as it is made by a shift
+pub shifted : (bits : ℕ) → bits ≤ 3 → 1 * 2 ^ bits % 18446744073709551616 ≡ 2 ^ bits
+shifted zero h = refl
+shifted (suc zero) h = refl
+shifted (suc (suc zero)) h = refl
+shifted (suc (suc (suc zero))) h = refl
+shifted (suc (suc (suc (suc n)))) h = absurd (omega arith)
+
+by_entry : (t bits c v : ℕ) → (18 < c → v ≡ 0) → (c ≤ 18 → t / 2 ^ (bits * c) % 2 ^ bits ≡ v) → entry_of t bits c ≡ v
+by_entry t bits c v p q = go (ltb 18 c) refl
+  where
+    go : (b : Bool) → ltb 18 c ≡ b → entry_of t bits c ≡ v
+    go true e = let h = ltb-true 18 c e in entry_past t bits c h ∙ sym (p h)
+    go false e = let h = ltb-false 18 c e in entry_here t bits c h ∙ q h
+
+once : (t c : ℕ) → t / 2 ^ (1 * c) % 2 ^ 1 ≡ t / 2 ^ c % 2
+once t c = let e : 1 * c ≡ c = omega arith in ap (λ (n : ℕ). t / 2 ^ n % 2) e
+
+by_answer : (t c : ℕ) (v : Bool) → (18 < c → v ≡ false) → (c ≤ 18 → eqb (t / 2 ^ c % 2) 1 ≡ v) → eqb (entry_of t 1 c) 1 ≡ v
+by_answer t c v p q = go (ltb 18 c) refl
+  where
+    go : (b : Bool) → ltb 18 c ≡ b → eqb (entry_of t 1 c) 1 ≡ v
+    go true e = let h = ltb-true 18 c e in ap (λ (n : ℕ). eqb n 1) (entry_past t 1 c h) ∙ sym (p h)
+    go false e = let h = ltb-false 18 c e in ap (λ (n : ℕ). eqb n 1) (entry_here t 1 c h ∙ once t c) ∙ q h
+
 -- ---- past the last code
 
 module _ (c : ℕ) (h : 18 < c) where
@@ -236,3 +276,27 @@ module _ (c : ℕ) (h : 18 < c) where
   pub past_value : is_value c ≡ false
   unfolding is_value
   past_value = get_or-eq_default (answers value_table) false h
+
+-- ---- each table's entry is its definition's
+
+module _ (c : ℕ) where
+  pub entry_kids : entry_of (pack 2 kid_table) 2 c ≡ kids_of c
+  entry_kids = by_entry _ 2 c (kids_of c) (past_kids c) (packed_kids c)
+
+  pub entry_bind1 : entry_of (pack 1 bind1_table) 1 c ≡ bind1 c
+  entry_bind1 = by_entry _ 1 c (bind1 c) (past_bind1 c) (λ h. once (pack 1 bind1_table) c ∙ packed_bind1 c h)
+
+  pub entry_bind2 : entry_of (pack 1 bind2_table) 1 c ≡ bind2 c
+  entry_bind2 = by_entry _ 1 c (bind2 c) (past_bind2 c) (λ h. once (pack 1 bind2_table) c ∙ packed_bind2 c h)
+
+  pub entry_goes1 : eqb (entry_of (pack 1 goes1_table) 1 c) 1 ≡ goes1 c
+  entry_goes1 = by_answer _ c (goes1 c) (past_goes1 c) (packed_goes1 c)
+
+  pub entry_goes2 : eqb (entry_of (pack 1 goes2_table) 1 c) 1 ≡ goes2 c
+  entry_goes2 = by_answer _ c (goes2 c) (past_goes2 c) (packed_goes2 c)
+
+  pub entry_value : eqb (entry_of (pack 1 value_table) 1 c) 1 ≡ is_value c
+  entry_value = by_answer _ c (is_value c) (past_value c) (packed_value c)
+
+  pub entry_widths : c ≤ 18 → entry_of (pack 3 width_table) 3 c ≡ field_of c + 1
+  entry_widths h = entry_here _ 3 c h ∙ packed_widths c h

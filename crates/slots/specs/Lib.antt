@@ -1,6 +1,8 @@
+pub mod Found
 pub mod Codes
 pub mod Walk
 pub mod Due
+pub mod Part
 pub mod Lent
 pub mod Closed
 pub mod ClosedLoop

@@ -1,5 +1,5 @@
 -- The loop of `put`: what has been written, what is to come, and that there is room on the stack for it, whatever the bytes are.
-use Rattle.std.specs.Prelude.{◌≡◌, refl, Bool, true, false, ℕ, ◌+◌, ◌-◌, ◌*◌, ◌/◌, ◌<◌, ◌≤◌, min, eqb, ltb, get_or, drop}
+use Rattle.std.specs.Prelude.{◌≡◌, refl, Bool, true, false, ℕ, ◌+◌, ◌-◌, ◌*◌, ◌/◌, ◌<◌, ◌≤◌, min, eqb, ltb, get_or, drop, Option, Some, None, is_none}
 use Rattle.std.proofs.Common.{sym, ◌∙◌, subst, arith, drop_of_length-le, length-drop, drop-drop, take-add, take_all}
 use Rattle.std.proofs.Math.Path.{ap}
 use mathlib.Core.List.{List, [], ◌++◌, append_assoc, append-nil}
@@ -9,6 +9,8 @@ use Rattle.laws.specs.Tests.{split}
 use Rattle.slots.specs.Codes.{field_of}
 use Rattle.slots.specs.Due.{Due, due, ended, after, stack_of, due_of, push_of, push≤two, Stacked}
 use Rattle.slots.specs.Lent.{swept, swept_none}
+use Rattle.slots.specs.Part.{under, height, at_some, at_none}
+use Rattle.slots.specs.declared.stack.Part.{Part}
 use Rattle.writing.specs.Written.{Written, written_fits, written_short, Stands, fits_stands, stands_first}
 use Rattle.writing.specs.Written.{stands_length, written_behind, none_written, cut_written}
 use Rattle.slots.specs.Put.{put_bytes, put_of, hit, piece, put_in, Put}
@@ -39,6 +41,15 @@ pub record Putting (all src v before dst stack : List ℕ) (dn : Bool) (d sp out
   pub deep : d ≤ i
   pub low : from ≤ i
   pub inside : from ≤ length src
+
+-- by what the code has of what comes next
+module _ {all src v before dst stack : List ℕ} {next : Option Part} {out from i : ℕ}
+    (l : Putting all src v before dst stack (is_none next) (under next) (height next) out from i) where
+  pub putting_part : {p : Part} → next ≡ Some p → Putting all src v before dst stack false p.d p.sp out from i
+  putting_part {p} e = at_some (λ dn d sp. Putting all src v before dst stack dn d sp out from i) l p e
+
+  pub putting_past : next ≡ None → Putting all src v before dst stack true 0 0 out from i
+  putting_past e = at_none (λ dn d sp. Putting all src v before dst stack dn d sp out from i) l e
 
 module _ (src v before : List ℕ) (at : ℕ) (h : at ≤ length before) where
   pub putting_start : (stack : List ℕ) → length stack ≡ 2 * length src

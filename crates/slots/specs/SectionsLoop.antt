@@ -11,6 +11,7 @@ use borrow.Author.Tests.{ne_eqb, ltb-true, ltb-false}
 use Rattle.paper.specs.Base.{choose}
 use Rattle.slots.specs.Way.{onward}
 use Rattle.slots.specs.WayLoop.{Onward}
+use Rattle.slots.specs.Found.{Answer}
 use Rattle.slots.specs.Sections.{open_at, opens_from, opens_of, granted, cleared, tally, Claimed, claimed_all, claimed_none, opens_here}
 use Rattle.slots.specs.Sections.{opens_on, past_opens, granted_append, cleared_append}
 
@@ -167,28 +168,28 @@ module _ {s m₀ m : List ℕ} {n p : ℕ} (o : Opening s m₀ m n p) (i : p < l
         let h = more_fails s m₀ m n p i o.fuel o.enough o.grants o.clears o.counts in
         here_fails s m₀ m n p m' k c h.0 h.1 z
 
-    module _ (z : (k ≡ 0 → ⊥)) {r e : ℕ} (w : Onward s p r e) where
-      pub opening_ends : r ≡ p → Claimed m₀ (opens_of s) m' (n + (k - 1) + 1)
-      opening_ends e =
+    module _ (z : (k ≡ 0 → ⊥)) {r : ℕ} {e : Answer} (w : Onward s p r e) where
+      pub opening_ends : r ≡ p → (t : ℕ) → t ≡ n + (k - 1) + 1 → Claimed m₀ (opens_of s) m' t
+      opening_ends e t et =
           let e' : onward s p ≡ p = sym w.says ∙ e in
           here_ends s m₀ m n p m' k c (more_ends s m₀ m n p i o.fuel o.enough o.grants o.clears o.counts e')
           (omega (arith, z))
-          _ refl
+          t et
 
-      pub opening_on : (r ≡ p → ⊥) → Opening s m₀ m' (n + (k - 1)) r
-      opening_on f =
+      pub opening_on : (r ≡ p → ⊥) → (t : ℕ) → t ≡ n + (k - 1) → Opening s m₀ m' t r
+      opening_on f t et =
           let l : p < r = omega (arith, w.later, f) in
           let h = more_on s m₀ m n p i o.fuel o.enough o.grants o.clears o.counts r (sym w.says) l in
-          here_on s m₀ m n p m' k c h.0 r h.2 (omega (arith, z)) o.few l w.inside h.1 _ refl
+          here_on s m₀ m n p m' k c h.0 r h.2 (omega (arith, z)) o.few l w.inside h.1 t et
 
-pub opening_past : {s m₀ m : List ℕ} {n p : ℕ} (o : Opening s m₀ m n p) → length s ≤ p → Claimed m₀ (opens_of s) m (n + 1)
+pub opening_past : {s m₀ m : List ℕ} {n p : ℕ} (o : Opening s m₀ m n p) → length s ≤ p → (t : ℕ) → t ≡ n + 1 → Claimed m₀ (opens_of s) m t
 unfolding tally granted cleared
-opening_past {s} {m₀} {m} {n} {p} o h =
+opening_past {s} {m₀} {m} {n} {p} o h t et =
     let e = past_opens o.fuel s p h in
     let g : granted m₀ (opens_of s) ≡ true = sym o.grants ∙ ap (granted m) e in
     let w = o.counts g in
     let v = ap length e in
-    let u : n + 1 ≡ suc (length (opens_of s)) = omega arith in
+    let u : t ≡ suc (length (opens_of s)) = omega arith in
     record {
       says = u ∙ ap (λ (x : Bool). choose x (λ _. suc (length (opens_of s))) (λ _. 0)) (sym g);
       marks = ap (cleared m) (sym e) ∙ o.clears;

@@ -1,8 +1,11 @@
 -- Passing over an expression: codes are read in prefix order, and each says how many bytes of its own and how many expressions follow. The
 -- function of bytes `walk` goes byte by byte; the code goes from code to code, which the laws say is the same.
-use Rattle.std.specs.Prelude.{◌≡◌, refl, Bool, true, false, List, [], ◌∷◌, ℕ, zero, suc, ◌+◌, ◌-◌, ◌*◌, ◌<◌, ◌≤◌, length, get_or, drop, leb}
-use Rattle.std.proofs.Common.{sym, ap, ◌∙◌, subst, add-zero, arith, drop_of_length-le, length-drop, drop-cons, drop-drop, leb-true, leb-false}
+use Rattle.std.specs.Prelude.{◌≡◌, refl, Bool, true, false, List, [], ◌∷◌, ℕ, zero, suc, ◌+◌, ◌-◌, ◌*◌, ◌<◌, ◌≤◌, length, get_or, drop, leb, Some, None, IfSome, eqb}
+use Rattle.std.specs.Bool.{then_some}
+use borrow.Author.Tests.{eqb-true, eqb-false}
+use Rattle.std.proofs.Common.{sym, ap, ◌∙◌, add-zero, arith, drop_of_length-le, length-drop, drop-cons, drop-drop, leb-true, leb-false}
 use Rattle.slots.specs.Codes.{is_code, kids_of, field_of, kids≤}
+use Rattle.slots.specs.Found.{Answer, found, found_at, found_some, found_none}
 
 -- where the bytes end that `hold` bytes of a field and then `need` expressions take, from place `at` on: 0 where they do not end
 unfoldable pub walk : List ℕ → (at need hold : ℕ) → ℕ
@@ -117,15 +120,42 @@ skip_inside s at = go (leb at (length s)) refl
     go false e = let l = leb-false at (length s) e in let z : walk (drop at s) at 1 0 ≡ 0 = walk_end s at 1 (omega arith) (omega arith) in
         omega arith
 
+-- an expression takes a byte
+walk_later : (xs : List ℕ) (at need hold : ℕ) → 0 < walk xs at need hold → at + need + hold ≤ walk xs at need hold
+unfolding walk
+walk_later [] at zero zero p = omega arith
+walk_later [] at zero (suc h) p = absurd (omega arith)
+walk_later [] at (suc n) h p = absurd (omega arith)
+walk_later (x ∷ xs) at zero zero p = omega arith
+walk_later (x ∷ xs) at (suc n) zero p = go (is_code x) p (walk_later xs (suc at) (n + kids_of x) (field_of x))
+  where
+    go : (b : Bool) → 0 < elim b [ true ↦ walk xs (suc at) (n + kids_of x) (field_of x) | false ↦ 0 ]
+        → (0 < walk xs (suc at) (n + kids_of x) (field_of x)
+        → suc at + (n + kids_of x) + field_of x ≤ walk xs (suc at) (n + kids_of x) (field_of x))
+        → at + suc n + 0 ≤ elim b [ true ↦ walk xs (suc at) (n + kids_of x) (field_of x) | false ↦ 0 ]
+    go true q ih = let l = ih q in omega arith
+    go false q ih = absurd (omega arith)
+walk_later (x ∷ xs) at n (suc h) p = let l = walk_later xs (suc at) n h p in omega arith
+
+pub skip_later : (s : List ℕ) (at : ℕ) → 0 < skip_of s at → at < skip_of s at
+unfolding skip_of
+skip_later s at p = omega (arith, walk_later (drop at s) at 1 0 p)
+
 -- ---- the contract
 
--- `skip` answers the place after the expression at `at`, or 0
-pub record Skipped (s : List ℕ) (at r : ℕ) : Type 0 where
-  pub says : r ≡ skip_of s at
-  pub inside : r ≤ length s
+-- `skip` answers the place after the expression at `at`, if one stands there
+pub record Skipped (s : List ℕ) (at : ℕ) (r : Answer) : Type 0 where
+  pub says : r ≡ found (skip_of s at)
+  pub inside : IfSome r (λ e. (at < e) × (e ≤ length s))
 
-pub skipped_one : {s : List ℕ} {at r r' : ℕ} → Skipped s at r → Skipped s at r' → r ≡ r'
+pub skipped_one : {s : List ℕ} {at : ℕ} {r r' : Answer} → Skipped s at r → Skipped s at r' → r ≡ r'
 skipped_one a b = a.says ∙ sym b.says
+
+pub skipped_some : {s : List ℕ} {at e : ℕ} → Skipped s at (Some e) → (e ≡ skip_of s at) × (at < e) × (e ≤ length s)
+skipped_some {s} {at} {e} a = ((found_some (skip_of s at) e a.says).0, a.inside.0, a.inside.1)
+
+pub skipped_none : {s : List ℕ} {at : ℕ} → Skipped s at None → skip_of s at ≡ 0
+skipped_none {s} {at} a = found_none (skip_of s at) a.says
 
 -- ---- the loop
 
@@ -133,30 +163,45 @@ skipped_one a b = a.says ∙ sym b.says
 pub record Skipping (s : List ℕ) (at i need : ℕ) : Type 0 where
   pub same : walk (drop i s) i need 0 ≡ skip_of s at
   pub few : need ≤ 2 * i + 1
+  pub some : 0 < i + need
 
 pub skipping_start : (s : List ℕ) (at : ℕ) → Skipping s at at 1
 unfolding skip_of
-skipping_start s at = record { same = refl; few = omega arith }
+skipping_start s at = record { same = refl; few = omega arith; some = omega arith }
 
-answered : (s : List ℕ) (at r : ℕ) → r ≡ skip_of s at → Skipped s at r
-answered s at r e = record { says = e; inside = subst (λ (k : ℕ). k ≤ length s) (sym e) (skip_inside s at) }
+answered : (s : List ℕ) (at e : ℕ) → 0 < e → e ≡ skip_of s at → Skipped s at (Some e)
+answered s at e p h = record {
+  says = found_at (skip_of s at) e p h;
+  inside = (omega (arith, skip_later s at, h), omega (arith, skip_inside s at, h));
+}
+
+unanswered : (s : List ℕ) (at : ℕ) → 0 ≡ skip_of s at → Skipped s at None
+unanswered s at h = record { says = ap found h; inside = tt }
 
 module _ {s : List ℕ} {at i need : ℕ} (l : Skipping s at i need) where
-  pub skipping_over : need ≡ 0 → Skipped s at i
+  pub skipping_over : need ≡ 0 → Skipped s at (Some i)
   skipping_over z =
-      answered s at i (sym (walk_done (drop i s) i) ∙ ap (λ (n : ℕ). walk (drop i s) i n 0) (sym z) ∙ l.same)
+      let o = l.some in
+      answered s at i (omega arith) (sym (walk_done (drop i s) i) ∙ ap (λ (n : ℕ). walk (drop i s) i n 0) (sym z) ∙ l.same)
 
-  pub skipping_end : length s ≤ i → 0 < need → Skipped s at 0
-  skipping_end h p = answered s at 0 (sym (walk_end s i need h p) ∙ l.same)
+  pub skipping_end : length s ≤ i → 0 < need → Skipped s at None
+  skipping_end h p = unanswered s at (sym (walk_end s i need h p) ∙ l.same)
+
+  pub skipping_last : length s ≤ i → Skipped s at (then_some (eqb need 0) i)
+  skipping_last h = go (eqb need 0) refl
+    where
+      go : (b : Bool) → eqb need 0 ≡ b → Skipped s at (then_some b i)
+      go true e = skipping_over (eqb-true need 0 e)
+      go false e = skipping_end h (omega (arith, eqb-false need 0 e))
 
   module _ (h : i < length s) (p : 0 < need) where
-    pub skipping_bad : is_code (get_or s i 0) ≡ false → Skipped s at 0
-    skipping_bad e = answered s at 0 (sym (walk_bad s i need h p e) ∙ l.same)
+    pub skipping_bad : is_code (get_or s i 0) ≡ false → Skipped s at None
+    skipping_bad e = unanswered s at (sym (walk_bad s i need h p e) ∙ l.same)
 
     -- w bytes with the code
     module _ (c : is_code (get_or s i 0) ≡ true) (w : ℕ) (ew : w ≡ field_of (get_or s i 0) + 1) where
-      pub skipping_cut : length s < i + w → Skipped s at 0
-      skipping_cut m = answered s at 0 (sym (walk_cut s i need h p c (w - 1) (omega arith) (omega arith)) ∙ l.same)
+      pub skipping_cut : length s < i + w → Skipped s at None
+      skipping_cut m = unanswered s at (sym (walk_cut s i need h p c (w - 1) (omega arith) (omega arith)) ∙ l.same)
 
       pub skipping_on : i + w ≤ length s → (k : ℕ) → k ≡ kids_of (get_or s i 0) → Skipping s at (i + w) (need - 1 + k)
       skipping_on m k ek =
@@ -166,4 +211,5 @@ module _ {s : List ℕ} {at i need : ℕ} (l : Skipping s at i need) where
             same = ap (λ (n : ℕ). walk (drop (i + w) s) (i + w) (need - 1 + n) 0) ek
                 ∙ sym (walk_code s i need h p c (w - 1) (omega arith) (i + w) (omega arith) (omega arith)) ∙ l.same;
             few = omega arith;
+            some = omega arith;
           }

@@ -10,6 +10,7 @@ use borrow.Author.Tests.{eq-eqb, ne_eqb}
 use Rattle.paper.specs.Base.{choose}
 use Rattle.slots.specs.Codes.{field_of, goes1, goes2, is_value}
 use Rattle.slots.specs.Walk.{skip_of}
+use Rattle.slots.specs.Found.{Answer, found, one_more, one_more_one}
 
 -- after the first part, which is a value from f on: the second part, if evaluation goes there and it is no value
 unfoldable pub second : List ℕ → (p f e : ℕ) → ℕ
@@ -64,21 +65,21 @@ aim_of s = aim_number (aim_at s (place_of s))
 -- ---- the contracts
 
 -- `place` answers where the next step is made, which for a value, which makes none, is its first byte; and where a second part begins there
-pub record Place (s : List ℕ) (r e : ℕ) : Type 0 where
+pub record Place (s : List ℕ) (r : ℕ) (e : Answer) : Type 0 where
   pub says : r ≡ place_of s
   pub inside : r ≤ length s
-  pub second : e ≡ second_at s r
+  pub second : e ≡ found (second_at s r)
 
-pub place_one : {s : List ℕ} {r e r' e' : ℕ} → Place s r e → Place s r' e' → (r ≡ r') × (e ≡ e')
-place_one {s} a b = let z = a.says ∙ sym b.says in (z, a.second ∙ ap (second_at s) z ∙ sym b.second)
+pub place_one : {s : List ℕ} {r r' : ℕ} {e e' : Answer} → Place s r e → Place s r' e' → (r ≡ r') × (e ≡ e')
+place_one {s} a b = let z = a.says ∙ sym b.says in (z, a.second ∙ ap (λ x. found (second_at s x)) z ∙ sym b.second)
 
--- `aim` answers which cell is read or written there: 0 for none, or one more than its number
-pub record Aim (s : List ℕ) (r : ℕ) : Type 0 where
-  pub says : r ≡ aim_of s
-  pub small : r ≤ 256
+-- `aim` answers which cell is read or written there, if one is
+pub record Aim (s : List ℕ) (r : Answer) : Type 0 where
+  pub says : one_more r ≡ aim_of s
+  pub small : one_more r ≤ 256
 
-pub aim_one : {s : List ℕ} {r r' : ℕ} → Aim s r → Aim s r' → r ≡ r'
-aim_one a b = a.says ∙ sym b.says
+pub aim_one : {s : List ℕ} {r r' : Answer} → Aim s r → Aim s r' → r ≡ r'
+aim_one {s} {r} {r'} a b = one_more_one r r' (a.says ∙ sym b.says)
 
 -- ---- one part further
 

@@ -3,24 +3,18 @@ ghost use Rattle.std.specs.Prelude.{◌≡◌, ◌++◌, ◌+◌, ◌*◌, ◌�
 ghost use Rattle.writing.specs.Written.{Written};
 ghost use Rattle.slots.specs.Put.{hit, put_of, Put};
 
-use crate::codes::{byte, fields};
-use crate::stack::{Next, after, ended};
+use crate::codes::{VARIABLE, fields};
+use crate::stack::{Part, after, ended};
 use writing::{fill, fill_both, least};
 use zeros::clear;
 
 // Whether a variable stands at i, and is d.
+#[tactic(auto, unfolding(crate::specs::Put::hit))]
 fn is_hit(src: &[u8], i: usize, d: usize) -> bool
     requires { i < length src.now }
     ensures { result ≡ hit src.now i d }
 {
-    if src[i] != 3 {
-        return false;
-    }
-    let k = i + 1;
-    if src.len() <= k {
-        return false;
-    }
-    byte(src, k) == d
+    src[i] == VARIABLE && i + 1 < src.len() && usize::from(src[i + 1]) == d
 }
 
 // v for the outermost variable of the expression that stands first in src, to dst from `at` on, on a stack twice as long as src: no code puts
@@ -30,33 +24,27 @@ fn pass(src: &[u8], v: &[u8], dst: &mut [u8], at: usize, stack: &mut [u8]) -> us
     requires stack_len { length stack.old ≡ 2 * length src.now }
     ensures { Written (take at dst.old ++ put_of src.now v.now) dst.old dst.new result }
 {
-    let mut next = Next {
-        done: false,
-        d: 0,
-        sp: 0,
-    };
+    let mut next = Some(Part { d: 0, sp: 0 });
     let mut out = at;
     let mut from: usize = 0;
     let mut i: usize = 0;
     while i < src.len() {
-        if next.done {
+        let Some(part) = next else {
             return fill(&src[from..i], dst, out);
-        }
-        let c = src[i];
-        let d = next.d;
-        let sp = next.sp;
-        if is_hit(src, i, d) {
+        };
+        if is_hit(src, i, part.d) {
             out = fill_both(&src[from..i], v, dst, out);
             if dst.len() < out {
                 return out;
             }
-            next = ended(stack, sp, d);
+            next = ended(stack, part);
             i += 2;
             from = i;
             continue;
         }
-        next = after(stack, sp, d, c);
-        i = i + fields(c) + 1;
+        let c = src[i];
+        next = after(stack, part, c);
+        i += fields(c) + 1;
     }
     fill(&src[from..], dst, out)
 }

@@ -2,22 +2,23 @@
 // than twice as many. The caller lends it.
 ghost use Rattle.std.specs.Prelude.{◌≡◌, ◌∷◌, ◌+◌, ◌-◌, ◌<◌, length};
 ghost use Rattle.slots.specs.Codes.{Told};
-ghost use Rattle.slots.specs.Due.{due, ended as ended·of, after as after·of, push_of, stack_of, Stacked, Room};
+ghost use Rattle.slots.specs.Due.{due, ended as ended·of, after as after·of, push_of, stack_of, Room};
+ghost use Rattle.slots.specs.Part.{Comes};
 
 use crate::codes::{binds1, binds2, kids};
 
-// What comes next: nothing, or an expression under d binders; sp entries are open around it.
+// The entries: a further part under the same binders, one under a binder more, and the end of a binder's scope.
+const FURTHER: u8 = 0;
+
+const BOUND: u8 = 1;
+
+const SCOPE: u8 = 2;
+
+// An expression to be read: d binders are around it, and sp entries are open.
 #[derive(Clone, Copy)]
-pub(crate) struct Next {
-    pub(crate) done: bool,
+pub(crate) struct Part {
     pub(crate) d: usize,
     pub(crate) sp: usize,
-}
-
-fn less(x: usize) -> usize
-    ensures { result ≡ x - 1 }
-{
-    if x == 0 { 0 } else { x - 1 }
 }
 
 // How many entries the code puts on the stack.
@@ -28,77 +29,68 @@ pub(crate) fn pushes(c: u8) -> usize
     if k == 1 {
         return binds1(c);
     }
-    less(k)
+    k.saturating_sub(1)
 }
 
-// An expression under d binders has ended.
-pub(crate) fn ended(stack: &mut [u8], sp: usize, d: usize) -> Next
-    requires { Room stack.old sp d }
-    ensures { Stacked (ended·of d (stack_of stack.old sp)) sp (d + 1) result.done result.d result.sp stack.new }
+// The expression has ended: what comes next, if anything does.
+pub(crate) fn ended(stack: &mut [u8], part: Part) -> Option<Part>
+    requires { Room stack.old part.sp part.d }
+    ensures { Comes (ended·of part.d (stack_of stack.old part.sp)) part.sp (part.d + 1) result stack.new }
 {
-    let mut n = sp;
-    let mut depth = d;
+    let mut n = part.sp;
+    let mut depth = part.d;
     while 0 < n {
         let k = stack[n - 1];
-        if k == 0 {
-            return Next {
-                done: false,
+        if k == FURTHER {
+            return Some(Part {
                 d: depth,
                 sp: n - 1,
-            };
+            });
         }
-        if k == 1 {
-            stack[n - 1] = 2;
-            return Next {
-                done: false,
+        if k == BOUND {
+            stack[n - 1] = SCOPE;
+            return Some(Part {
                 d: depth + 1,
                 sp: n,
-            };
+            });
         }
         n -= 1;
-        depth = less(depth);
+        depth = depth.saturating_sub(1);
     }
-    Next {
-        done: true,
-        d: 0,
-        sp: 0,
-    }
+    None
 }
 
 // One entry more, and an expression under d binders.
-fn push(stack: &mut [u8], sp: usize, d: usize, k: u8) -> Next
+fn push(stack: &mut [u8], sp: usize, d: usize, k: u8) -> Option<Part>
     requires { sp < length stack.old }
-    ensures { Stacked (due d (k ∷ stack_of stack.old sp)) (sp + 1) d result.done result.d result.sp stack.new }
+    ensures { Comes (due d (k ∷ stack_of stack.old sp)) (sp + 1) d result stack.new }
 {
     stack[sp] = k;
-    Next {
-        done: false,
-        d,
-        sp: sp + 1,
-    }
+    Some(Part { d, sp: sp + 1 })
 }
 
-// The code c has been read, under d binders.
-pub(crate) fn after(stack: &mut [u8], sp: usize, d: usize, c: u8) -> Next
-    requires { Room stack.old (sp + push_of c) d }
-    ensures { Stacked (after·of c d (stack_of stack.old sp)) (sp + push_of c) (d + 1) result.done result.d result.sp stack.new }
+// The code c of the expression has been read: what comes next, if anything does.
+pub(crate) fn after(stack: &mut [u8], part: Part, c: u8) -> Option<Part>
+    requires { Room stack.old (part.sp + push_of c) part.d }
+    ensures { Comes (after·of c part.d (stack_of stack.old part.sp)) (part.sp + push_of c) (part.d + 1) result stack.new }
 {
+    let Part { d, sp } = part;
     let k = kids(c);
     if k == 0 {
-        return ended(stack, sp, d);
+        return ended(stack, part);
     }
     if k == 1 {
         if binds1(c) == 0 {
-            return Next { done: false, d, sp };
+            return Some(part);
         }
-        return push(stack, sp, d + 1, 2);
+        return push(stack, sp, d + 1, SCOPE);
     }
     if k == 2 {
         if binds2(c) == 0 {
-            return push(stack, sp, d, 0);
+            return push(stack, sp, d, FURTHER);
         }
-        return push(stack, sp, d, 1);
+        return push(stack, sp, d, BOUND);
     }
-    stack[sp] = 0;
-    push(stack, sp + 1, d, 0)
+    stack[sp] = FURTHER;
+    push(stack, sp + 1, d, FURTHER)
 }

@@ -3,29 +3,26 @@ ghost use Rattle.slots.specs.Walk.{Skipped};
 
 use crate::codes::{is_code, kids, width};
 
-// The place after the expression that begins at `at`, 0 where none does.
-pub fn skip(s: &[u8], at: usize) -> usize
+// The place after the expression that begins at `at`, if one does.
+pub fn skip(s: &[u8], at: usize) -> Option<usize>
     ensures { Skipped s.now at result }
 {
     let mut i = at;
     let mut need: usize = 1;
     while i < s.len() {
         if need == 0 {
-            return i;
+            return Some(i);
         }
         let c = s[i];
         if !is_code(c) {
-            return 0;
+            return None;
         }
         let w = width(c);
         if s.len() - i < w {
-            return 0;
+            return None;
         }
         need = need - 1 + kids(c);
         i += w;
     }
-    if 0 < need {
-        return 0;
-    }
-    i
+    (need == 0).then_some(i)
 }

@@ -1,18 +1,19 @@
 // Where evaluation goes in a slot: a path search without memory, since a value is told by its first byte.
 ghost use Rattle.std.specs.Prelude.{◌+◌, ◌≤◌, ◌<◌, length};
 ghost use Rattle.slots.specs.Codes.{Told};
+ghost use Rattle.slots.specs.Found.{one_more};
 ghost use Rattle.slots.specs.Way.{cell_from, aim_at, aim_number, Place, Aim};
 ghost use Rattle.slots.specs.WayLoop.{Onward};
 
-use crate::codes::{byte, fields, goes_first, goes_second, value};
+use crate::codes::{CELL, READ, WRITE, byte, fields, goes_first, goes_second, value};
 use crate::walk::skip;
 
 // How far evaluation goes: a place, and where the second part of the code there begins, if both its parts are values and evaluation goes into
-// both; else 0. To see that the second is a value the first was passed over, and nobody need do so again.
+// both. To see that the second is a value the first was passed over, and nobody need do so again.
 #[derive(Clone, Copy)]
 pub struct Reached {
     pub at: usize,
-    pub second: usize,
+    pub second: Option<usize>,
 }
 
 // The part into which evaluation goes on from the code at p; p itself where it goes no further.
@@ -22,29 +23,52 @@ pub(crate) fn onward(s: &[u8], p: usize) -> Reached
 {
     let c = s[p];
     if !goes_first(c) {
-        return Reached { at: p, second: 0 };
+        return Reached {
+            at: p,
+            second: None,
+        };
     }
     let f = p + fields(c) + 1;
     if s.len() <= f {
-        return Reached { at: p, second: 0 };
+        return Reached {
+            at: p,
+            second: None,
+        };
     }
     if !value(s[f]) {
-        return Reached { at: f, second: 0 };
+        return Reached {
+            at: f,
+            second: None,
+        };
     }
     if !goes_second(c) {
-        return Reached { at: p, second: 0 };
+        return Reached {
+            at: p,
+            second: None,
+        };
     }
-    let e = skip(s, f);
-    if e <= f {
-        return Reached { at: p, second: 0 };
-    }
+    let Some(e) = skip(s, f) else {
+        return Reached {
+            at: p,
+            second: None,
+        };
+    };
     if s.len() <= e {
-        return Reached { at: p, second: 0 };
+        return Reached {
+            at: p,
+            second: None,
+        };
     }
     if value(s[e]) {
-        return Reached { at: p, second: e };
+        return Reached {
+            at: p,
+            second: Some(e),
+        };
     }
-    Reached { at: e, second: 0 }
+    Reached {
+        at: e,
+        second: None,
+    }
 }
 
 // The place of the next step of the expression that fills s.
@@ -59,37 +83,37 @@ pub fn place(s: &[u8]) -> Reached
         }
         p = n.at;
     }
-    Reached { at: p, second: 0 }
-}
-
-// The cell location at p: 0 where there is none, or one more than its number.
-fn cell_from(s: &[u8], p: usize) -> usize
-    requires { p ≤ length s.now + 1 }
-    ensures { Told (aim_number (cell_from s.now p)) 256 result }
-{
-    if byte(s, p) == 17 {
-        return byte(s, p + 1) + 1;
+    Reached {
+        at: p,
+        second: None,
     }
-    0
 }
 
-// The cell that the code at p reads or writes: 0 where there is none, or one more than its number.
-fn aim_at(s: &[u8], p: usize) -> usize
+// The cell location at p, if one stands there.
+fn cell_from(s: &[u8], p: usize) -> Option<u8>
+    requires { p ≤ length s.now + 1 }
+    ensures { Told (aim_number (cell_from s.now p)) 256 (one_more result) }
+{
+    if byte(s, p) != CELL {
+        return None;
+    }
+    Some(byte(s, p + 1))
+}
+
+// The cell that the code at p reads or writes, if it does.
+fn aim_at(s: &[u8], p: usize) -> Option<u8>
     requires { p ≤ length s.now }
-    ensures { Told (aim_number (aim_at s.now p)) 256 result }
+    ensures { Told (aim_number (aim_at s.now p)) 256 (one_more result) }
 {
     let c = byte(s, p);
-    if c == 7 {
+    if c == READ || c == WRITE {
         return cell_from(s, p + 1);
     }
-    if c == 8 {
-        return cell_from(s, p + 1);
-    }
-    0
+    None
 }
 
-// The cell that the expression that fills s is about to read or write: 0 where there is none, or one more than its number.
-pub fn aim(s: &[u8]) -> usize
+// The cell that the expression that fills s is about to read or write, if it is.
+pub fn aim(s: &[u8]) -> Option<u8>
     ensures { Aim s.now result }
 {
     aim_at(s, place(s).at)

@@ -1,11 +1,9 @@
--- The packed table is `is_value`'s own.
-use mathlib.Core.Path.{sym}
-use native.Mathlib.Omega.{arith}
-use Rattle.slots.specs.Codes.{past_value, packed_value}
+-- The table's entry is the definition's.
+use mathlib.Core.Path.{ap, ◌∙◌}
+use Prim.Native.Nat.{ℕ}
+use lib.Dec.{eqb}
+use Rattle.slots.specs.Codes.{entry_value}
 use Rattle.slots.proofs.codes.value.Goals as goal
 
-pub returns-then-c-gt18 : goal.returns-then-c-gt18
-returns-then-c-gt18 c = sym (past_value _ c.if-c-gt18.true)
-
 pub returns : goal.returns
-returns c = packed_value _ (omega (arith, c.if-c-gt18.false))
+returns c = ap (λ (n : ℕ). eqb n 1) c.entry.ensures ∙ entry_value c.args.c

@@ -1,7 +1,8 @@
 -- What is written, the stretch up to here and what is to come are the whole; no bytes take more of the stack than there is (`PutLoop`).
-use mathlib.Core.Path.{sym, ◌∙◌}
+use mathlib.Core.Path.{◌≡◌, refl, sym, ◌∙◌}
+use Prim.Native.Nat.{◌+◌}
 use native.Mathlib.Omega.{arith}
-use Rattle.slots.specs.PutLoop.{putting_start, putting_end, putting_over, putting_length}
+use Rattle.slots.specs.PutLoop.{putting_start, putting_part, putting_past, putting_end, putting_over, putting_length}
 use Rattle.slots.specs.PutLoop.{putting_short, putting_value, putting_stack, putting_code}
 use Rattle.slots.proofs.put.pass.Goals as goal
 
@@ -14,11 +15,11 @@ slice_bounds-fill-count c = c.loop-i.invariant.low
 pub slice_bounds-fill-start : goal.slice_bounds-fill-start
 slice_bounds-fill-start c = c.loop-i.invariant.low
 
-pub shape_of-dst-then-next : goal.shape_of-dst-then-next
-shape_of-dst-then-next c = c.fill.auto.dst ∙ putting_length c.loop-i.invariant
+pub shape_of-dst-in_default : goal.shape_of-dst-in_default
+shape_of-dst-in_default c = c.fill.auto.dst ∙ putting_length c.loop-i.invariant
 
-pub returns-then-next : goal.returns-then-next
-returns-then-next c = putting_over c.loop-i.invariant c.if-next.true c.fill.ensures
+pub returns-in_default : goal.returns-in_default
+returns-in_default c = putting_over (putting_past c.loop-i.invariant c.in_default.is) refl c.fill.ensures
 
 pub slice_bounds-fill_both-count : goal.slice_bounds-fill_both-count
 slice_bounds-fill_both-count c = c.loop-i.invariant.low
@@ -30,16 +31,18 @@ pub shape_of-dst-then-dst-out : goal.shape_of-dst-then-dst-out
 shape_of-dst-then-dst-out c = c.fill_both-out.auto.dst ∙ putting_length c.loop-i.invariant
 
 pub returns-then-dst-out : goal.returns-then-dst-out
-returns-then-dst-out c = putting_short c.loop-i.invariant c.loop-i-test.true c.if-next.false (sym c.is_hit.ensures ∙ c.if-is_hit.true) c.fill_both-out.ensures (omega (arith, c.if-dst-out.true, c.fill_both-out.auto.dst))
+returns-then-dst-out c = putting_short (putting_part c.loop-i.invariant c.in-Some.is) c.loop-i-test.true refl (sym c.is_hit.ensures ∙ c.if-is_hit.true) c.fill_both-out.ensures (omega (arith, c.if-dst-out.true, c.fill_both-out.auto.dst))
 
 pub loop-i-preserved-then-is_hit : goal.loop-i-preserved-then-is_hit
-loop-i-preserved-then-is_hit c = putting_value c.loop-i.invariant c.loop-i-test.true c.if-next.false (sym c.is_hit.ensures ∙ c.if-is_hit.true) c.fill_both-out.ensures (omega (arith, c.if-dst-out.false, c.fill_both-out.auto.dst)) c.ended-next.auto.stack c.ended-next.ensures
+loop-i-preserved-then-is_hit c = putting_value (putting_part c.loop-i.invariant c.in-Some.is) c.loop-i-test.true refl (sym c.is_hit.ensures ∙ c.if-is_hit.true) c.fill_both-out.ensures (omega (arith, c.if-dst-out.false, c.fill_both-out.auto.dst)) c.ended-next.auto.stack c.ended-next.ensures
 
 pub after-next-requires : goal.after-next-requires
-after-next-requires c = record { top = putting_stack c.loop-i.invariant c.loop-i-test.true c.if-next.false; deep = omega (arith, c.loop-i.invariant.deep, c.loop-i.invariant.long, c.loop-i-test.true) }
+after-next-requires c = record { top = putting_stack (putting_part c.loop-i.invariant c.in-Some.is) c.loop-i-test.true refl; deep = let l = putting_part c.loop-i.invariant c.in-Some.is in omega (arith, l.deep, l.long, c.loop-i-test.true) }
 
 pub loop-i-preserved : goal.loop-i-preserved
-loop-i-preserved c = putting_code c.loop-i.invariant c.loop-i-test.true c.if-next.false (sym c.is_hit.ensures ∙ c.if-is_hit.false) c.fields.result c.fields.ensures.says c.after-next.auto.stack c.after-next.ensures
+loop-i-preserved c =
+    let e : c.loop-i.i + (c.fields.result + 1) ≡ c.loop-i.i + c.fields.result + 1 = omega arith in
+    rw e (putting_code (putting_part c.loop-i.invariant c.in-Some.is) c.loop-i-test.true refl (sym c.is_hit.ensures ∙ c.if-is_hit.false) c.fields.result c.fields.ensures.says c.after-next.auto.stack c.after-next.ensures)
 
 pub slice_bounds-fill-count-2 : goal.slice_bounds-fill-count-2
 slice_bounds-fill-count-2 c = c.loop-i.invariant.inside

@@ -1,15 +1,18 @@
 -- The ways of `Slot`.
 use mathlib.Core.Path.{sym, subst}
+use borrow.Author.Tests.{eqb-true}
+use Rattle.slots.specs.Found.{asked_no, asked_yes}
 use Rattle.slots.specs.Slot.{CellSlot, cell_none, cell_by, cell_empty}
 use Rattle.slots.proofs.sections.cell_slot.Goals as goal
 
-pub returns-then-closed-ne1 : goal.returns-then-closed-ne1
-returns-then-closed-ne1 c = cell_none c.closed.ensures c.if-closed-ne1.true
+pub returns-then-ne : goal.returns-then-ne
+returns-then-ne c = cell_none c.closed.ensures (asked_no c.closed.result 0 c.if-ne.ensures)
 
-pub returns-then-s-eq0 : goal.returns-then-s-eq0
-returns-then-s-eq0 c = cell_empty c.closed.ensures c.if-closed-ne1.false c.if-s-eq0.true
+pub returns-then-is_empty : goal.returns-then-is_empty
+returns-then-is_empty c =
+    cell_empty c.closed.ensures (asked_yes c.closed.result 0 c.if-ne.ensures) (eqb-true _ _ (sym c.if-is_empty.ensures))
 
 pub returns : goal.returns
 returns c =
-    subst (CellSlot _ _ c.args.s.now c.args.stack.now _) (sym c.value.ensures)
-    (cell_by c.closed.ensures c.if-closed-ne1.false)
+    subst (CellSlot c.args.nl c.args.nc c.args.s.now c.args.stack.now c.closed.new.stack) (sym c.value.ensures)
+    (cell_by c.closed.ensures (asked_yes c.closed.result 0 c.if-ne.ensures))

@@ -1,9 +1,15 @@
 -- The ways of `Slot`.
-use Rattle.slots.specs.Slot.{thread_none, thread_by}
+use mathlib.Core.Path.{refl, sym, subst, ◌∙◌}
+use native.Mathlib.Omega.{arith}
+use Rattle.slots.specs.Found.{one_more_eq}
+use Rattle.slots.specs.Slot.{ThreadSlot, thread_none, thread_by}
 use Rattle.slots.proofs.sections.thread_slot.Goals as goal
 
-pub returns-then-n-eq0 : goal.returns-then-n-eq0
-returns-then-n-eq0 c = thread_none c.closed-n.ensures c.args.marks.now c.if-n-eq0.true
+pub returns-in_default : goal.returns-in_default
+returns-in_default c = thread_none c.in_default.ensures c.args.marks.now refl
 
 pub returns : goal.returns
-returns c = thread_by c.closed-n.ensures c.if-n-eq0.false c.open_sections.ensures
+returns c =
+    subst (ThreadSlot c.args.nl c.args.nc c.args.s.now c.args.marks.now c.open_sections.new.marks c.args.stack.now c.closed.new.stack)
+    (sym (c.eq.ensures ∙ one_more_eq c.open_sections.result c.in-Some.n))
+    (thread_by c.in-Some.ensures (λ z. absurd (omega (arith, z))) c.open_sections.ensures)

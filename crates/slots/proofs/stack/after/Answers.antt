@@ -13,7 +13,7 @@ pub returns-then-k-eq0 : goal.returns-then-k-eq0
 returns-then-k-eq0 c =
     let e = c.ended.ensures in
     record {
-      is = e.is ∙ sym (after_leaf c.args.c c.args.d (stack_of c.args.stack.now c.args.sp)
+      is = e.is ∙ sym (after_leaf c.args.c c.args.part.d (stack_of c.args.stack.now c.args.part.sp)
           (sym c.kids-k.ensures.says ∙ c.if-k-eq0.true));
       most = omega (arith, e.most);
       under = e.under;
@@ -22,7 +22,7 @@ returns-then-k-eq0 c =
 pub returns-then-binds1-eq0 : goal.returns-then-binds1-eq0
 returns-then-binds1-eq0 c =
     record {
-      is = sym (after_plain c.args.c c.args.d (stack_of c.args.stack.now c.args.sp)
+      is = sym (after_plain c.args.c c.args.part.d (stack_of c.args.stack.now c.args.part.sp)
           (sym c.kids-k.ensures.says ∙ c.if-k-eq1.true) (sym c.binds1.ensures.says ∙ c.if-binds1-eq0.true));
       most = omega arith;
       under = omega arith;
@@ -43,7 +43,7 @@ returns-then-k-eq1 c =
     let b = c.binds1.ensures in
     let n = c.push.ensures in
     record {
-      is = n.is ∙ sym (after_bind c.args.c c.args.d (stack_of c.args.stack.now c.args.sp)
+      is = n.is ∙ sym (after_bind c.args.c c.args.part.d (stack_of c.args.stack.now c.args.part.sp)
           (sym c.kids-k.ensures.says ∙ c.if-k-eq1.true) (omega (arith, b.says, b.small, c.if-binds1-eq0.false)));
       most = omega (arith, n.most, b.says, c.if-binds1-eq0.false);
       under = n.under;
@@ -62,7 +62,7 @@ returns-then-binds2-eq0 c =
     let p = push_two c.args.c (sym c.kids-k.ensures.says ∙ c.if-k-eq2.true) in
     let n = c.push-then-binds2-eq0.ensures in
     record {
-      is = n.is ∙ sym (after_two c.args.c c.args.d (stack_of c.args.stack.now c.args.sp) 0
+      is = n.is ∙ sym (after_two c.args.c c.args.part.d (stack_of c.args.stack.now c.args.part.sp) 0
           (sym c.kids-k.ensures.says ∙ c.if-k-eq2.true) (sym c.binds2.ensures.says ∙ c.if-binds2-eq0.true));
       most = omega (arith, n.most, p);
       under = omega (arith, n.under);
@@ -82,7 +82,7 @@ returns-then-k-eq2 c =
     let b = c.binds2.ensures in
     let n = c.push-then-k-eq2.ensures in
     record {
-      is = n.is ∙ sym (after_two c.args.c c.args.d (stack_of c.args.stack.now c.args.sp) 1
+      is = n.is ∙ sym (after_two c.args.c c.args.part.d (stack_of c.args.stack.now c.args.part.sp) 1
           (sym c.kids-k.ensures.says ∙ c.if-k-eq2.true) (omega (arith, b.says, b.small, c.if-binds2-eq0.false)));
       most = omega (arith, n.most, p);
       under = omega (arith, n.under);
@@ -103,7 +103,7 @@ push-requires-2 c =
     simp length-set (omega (arith, p))
 
 pub shape_of-stack : goal.shape_of-stack
-shape_of-stack c = c.push-2.auto.stack ∙ length-set c.args.stack.now c.args.sp 0
+shape_of-stack c = c.push-2.auto.stack ∙ length-set c.args.stack.now c.args.part.sp 0
 
 pub returns : goal.returns
 returns c =
@@ -112,9 +112,9 @@ returns c =
     let p = push_three c.args.c three in
     let n = c.push-2.ensures in
     record {
-      is = n.is ∙ ap (λ (l : List ℕ). due c.args.d (0 ∷ l))
-          (stack_push c.args.stack.now c.args.sp 0 (omega (arith, p)))
-          ∙ sym (after_three c.args.c c.args.d (stack_of c.args.stack.now c.args.sp) three);
+      is = n.is ∙ ap (λ (l : List ℕ). due c.args.part.d (0 ∷ l))
+          (stack_push c.args.stack.now c.args.part.sp 0 (omega (arith, p)))
+          ∙ sym (after_three c.args.c c.args.part.d (stack_of c.args.stack.now c.args.part.sp) three);
       most = omega (arith, n.most, p);
       under = omega (arith, n.under);
     }

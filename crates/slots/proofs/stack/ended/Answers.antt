@@ -13,29 +13,29 @@ loop-n-init c = (omega arith, omega arith, refl, refl)
 pub bounds-stack-n : goal.bounds-stack-n
 bounds-stack-n c = let l = ap length c.loop-n.invariant.2 in omega arith
 
-pub returns-then-k-eq0 : goal.returns-then-k-eq0
-returns-then-k-eq0 c =
+pub returns-then-k-eq-FURTHER : goal.returns-then-k-eq-FURTHER
+returns-then-k-eq-FURTHER c =
     record {
       is = sym (ended_part c.loop-n.stack c.loop-n.n c.loop-n.depth c.loop-n-test.true
-          c.if-k-eq0.true) ∙ c.loop-n.invariant.3;
+          c.if-k-eq-FURTHER.true) ∙ c.loop-n.invariant.3;
       most = omega arith;
       under = omega arith;
     }
 
-pub bounds-stack-n-then-k-eq1 : goal.bounds-stack-n-then-k-eq1
-bounds-stack-n-then-k-eq1 c = let l = ap length c.loop-n.invariant.2 in omega arith
+pub bounds-stack-n-then-k-eq-BOUND : goal.bounds-stack-n-then-k-eq-BOUND
+bounds-stack-n-then-k-eq-BOUND c = let l = ap length c.loop-n.invariant.2 in omega arith
 
-pub shape_of-stack-then-k-eq1 : goal.shape_of-stack-then-k-eq1
-shape_of-stack-then-k-eq1 c = length-set c.loop-n.stack (c.loop-n.n - 1) 2 ∙ ap length c.loop-n.invariant.2
+pub shape_of-stack-then-k-eq-BOUND : goal.shape_of-stack-then-k-eq-BOUND
+shape_of-stack-then-k-eq-BOUND c = length-set c.loop-n.stack (c.loop-n.n - 1) 2 ∙ ap length c.loop-n.invariant.2
 
-pub returns-then-k-eq1 : goal.returns-then-k-eq1
-returns-then-k-eq1 c =
+pub returns-then-k-eq-BOUND : goal.returns-then-k-eq-BOUND
+returns-then-k-eq-BOUND c =
     let l = ap length c.loop-n.invariant.2 in
     record {
       is = ap (λ (l : List ℕ). due (c.loop-n.depth + 1) l)
           (stack_change c.loop-n.stack c.loop-n.n 2 c.loop-n-test.true (omega arith))
           ∙ sym (ended_let c.loop-n.stack c.loop-n.n c.loop-n.depth c.loop-n-test.true
-          c.if-k-eq1.true) ∙ c.loop-n.invariant.3;
+          c.if-k-eq-BOUND.true) ∙ c.loop-n.invariant.3;
       most = omega arith;
       under = omega arith;
     }
@@ -45,9 +45,9 @@ loop-n-preserved c = (
   omega arith,
   omega arith,
   c.loop-n.invariant.2,
-  ap (λ (k : ℕ). ended k (stack_of c.loop-n.stack (c.loop-n.n - 1))) c.less-depth.ensures
+  ap (λ (k : ℕ). ended k (stack_of c.loop-n.stack (c.loop-n.n - 1))) c.saturating_sub-depth.ensures
       ∙ sym (ended_scope c.loop-n.stack c.loop-n.n c.loop-n.depth c.loop-n-test.true
-      c.if-k-eq0.false c.if-k-eq1.false) ∙ c.loop-n.invariant.3,
+      c.if-k-eq-FURTHER.false c.if-k-eq-BOUND.false) ∙ c.loop-n.invariant.3,
 )
 
 pub returns : goal.returns

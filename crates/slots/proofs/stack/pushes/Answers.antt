@@ -14,7 +14,7 @@ returns-then-k-eq1 c =
 
 pub returns : goal.returns
 returns c =
-    let e = c.less.ensures in
+    let e = c.saturating_sub.ensures in
     let k = c.kids-k.ensures.says in
     let p = push_more c.args.c (λ z. c.if-k-eq1.false (k ∙ z)) in
     record { says = omega arith; small = omega arith }

@@ -1,7 +1,7 @@
 -- The loop keeps what is to come: from i on, `need` expressions are due. Each way out is one law of `Walk`.
-use mathlib.Core.Path.{sym, ◌∙◌}
+use mathlib.Core.Path.{sym, subst, ◌∙◌}
 use native.Mathlib.Omega.{arith}
-use Rattle.slots.specs.Walk.{skipping_start, skipping_over, skipping_end, skipping_bad, skipping_cut, skipping_on}
+use Rattle.slots.specs.Walk.{Skipped, skipping_start, skipping_over, skipping_last, skipping_bad, skipping_cut, skipping_on}
 use Rattle.slots.proofs.walk.skip.Goals as goal
 
 pub loop-i-init : goal.loop-i-init
@@ -27,8 +27,6 @@ loop-i-preserved c =
     (sym c.is_code.ensures ∙ c.if-not-is_code.false) c.width-w.result
     c.width-w.ensures.says (omega arith) c.kids.result c.kids.ensures.says
 
-pub returns-then-need-gt0 : goal.returns-then-need-gt0
-returns-then-need-gt0 c = skipping_end c.loop-i.invariant c.loop-i-test.false c.if-need-gt0.true
-
 pub returns : goal.returns
-returns c = skipping_over c.loop-i.invariant (omega arith)
+returns c =
+    subst (Skipped c.args.s.now c.args.at) (sym c.then_some.ensures) (skipping_last c.loop-i.invariant c.loop-i-test.false)

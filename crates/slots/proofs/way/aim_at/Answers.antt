@@ -3,26 +3,21 @@ use mathlib.Core.Path.{◌∙◌}
 use native.Mathlib.Omega.{arith}
 use Rattle.slots.specs.WayLoop.{aim_read, aim_write, aim_none}
 use Rattle.slots.proofs.way.aim_at.Goals as goal
+use Rattle.slots.proofs.way.aim_at.Goals.{then-c-eq-READ-via-then-c-eq-READ, then-c-eq-READ-via-else-c-eq-READ+then-c-eq-WRITE}
 
-pub returns-then-c-eq7 : goal.returns-then-c-eq7
-returns-then-c-eq7 c =
-    let a = c.cell_from.ensures in
+pub returns-then-c-eq-READ : goal.returns-then-c-eq-READ
+returns-then-c-eq-READ c =
     record {
-      says = a.says ∙ aim_read c.args.s.now c.args.p c.byte-c.ensures.says c.if-c-eq7.true;
-      small = a.small;
-    }
-
-pub returns-then-c-eq8 : goal.returns-then-c-eq8
-returns-then-c-eq8 c =
-    let a = c.cell_from-then-c-eq8.ensures in
-    record {
-      says = a.says ∙ aim_write c.args.s.now c.args.p c.byte-c.ensures.says c.if-c-eq8.true;
-      small = a.small;
+      says = elim c.then-c-eq-READ.branch [
+        | then-c-eq-READ-via-then-c-eq-READ w ↦ c.cell_from.ensures.says ∙ aim_read c.args.s.now c.args.p c.byte-c.ensures w.if-c-eq-READ.true
+        | then-c-eq-READ-via-else-c-eq-READ+then-c-eq-WRITE w ↦ c.cell_from.ensures.says ∙ aim_write c.args.s.now c.args.p c.byte-c.ensures w.if-c-eq-WRITE.true
+      ];
+      small = c.cell_from.ensures.small;
     }
 
 pub returns : goal.returns
 returns c =
     record {
-      says = aim_none c.args.s.now c.args.p c.byte-c.ensures.says c.if-c-eq7.false c.if-c-eq8.false;
+      says = aim_none c.args.s.now c.args.p c.byte-c.ensures c.if-c-eq-READ.false c.if-c-eq-WRITE.false;
       small = omega arith;
     }

@@ -1,6 +1,7 @@
 -- Each test of the code is one of `onward`'s, and each way out a law.
 use mathlib.Core.Path.{sym, ◌∙◌}
 use native.Mathlib.Omega.{arith}
+use Rattle.slots.specs.Walk.{skipped_some, skipped_none}
 use Rattle.slots.specs.WayLoop.{on_stop, on_cut, on_first, on_one, on_none, on_end, on_both, on_second}
 use Rattle.slots.proofs.way.onward.Goals as goal
 
@@ -25,29 +26,28 @@ returns-then-not-goes_second c =
     (sym c.value.ensures ∙ c.if-not-value.false)
     (sym c.goes_second.ensures ∙ c.if-not-goes_second.true)
 
-pub returns-then-e-f : goal.returns-then-e-f
-returns-then-e-f c =
+pub returns-in_default : goal.returns-in_default
+returns-in_default c =
     on_none c.requires c.fields.result c.fields.ensures.says
     (sym c.goes_first.ensures ∙ c.if-not-goes_first.false) (omega (arith, c.if-s-f.false))
     (sym c.value.ensures ∙ c.if-not-value.false)
-    (sym c.goes_second.ensures ∙ c.if-not-goes_second.false) c.skip-e.result
-    c.skip-e.ensures.says c.if-e-f.true
+    (sym c.goes_second.ensures ∙ c.if-not-goes_second.false) 0 (sym (skipped_none c.in_default.ensures)) (omega arith)
 
 pub returns-then-s-e : goal.returns-then-s-e
 returns-then-s-e c =
     on_end c.requires c.fields.result c.fields.ensures.says
     (sym c.goes_first.ensures ∙ c.if-not-goes_first.false) (omega (arith, c.if-s-f.false))
     (sym c.value.ensures ∙ c.if-not-value.false)
-    (sym c.goes_second.ensures ∙ c.if-not-goes_second.false) c.skip-e.result
-    c.skip-e.ensures.says (omega (arith, c.if-e-f.false)) c.if-s-e.true
+    (sym c.goes_second.ensures ∙ c.if-not-goes_second.false) c.in-Some.e
+    (skipped_some c.in-Some.ensures).0 (skipped_some c.in-Some.ensures).1 c.if-s-e.true
 
 pub returns-then-value : goal.returns-then-value
 returns-then-value c =
     on_both c.requires c.fields.result c.fields.ensures.says
     (sym c.goes_first.ensures ∙ c.if-not-goes_first.false) (omega (arith, c.if-s-f.false))
     (sym c.value.ensures ∙ c.if-not-value.false)
-    (sym c.goes_second.ensures ∙ c.if-not-goes_second.false) c.skip-e.result
-    c.skip-e.ensures.says (omega (arith, c.if-e-f.false)) (omega (arith, c.if-s-e.false))
+    (sym c.goes_second.ensures ∙ c.if-not-goes_second.false) c.in-Some.e
+    (skipped_some c.in-Some.ensures).0 (skipped_some c.in-Some.ensures).1 (omega (arith, c.if-s-e.false))
     (sym c.value-2.ensures ∙ c.if-value.true)
 
 pub returns : goal.returns
@@ -55,6 +55,6 @@ returns c =
     on_second c.requires c.fields.result c.fields.ensures.says
     (sym c.goes_first.ensures ∙ c.if-not-goes_first.false) (omega (arith, c.if-s-f.false))
     (sym c.value.ensures ∙ c.if-not-value.false)
-    (sym c.goes_second.ensures ∙ c.if-not-goes_second.false) c.skip-e.result
-    c.skip-e.ensures.says (omega (arith, c.if-e-f.false)) (omega (arith, c.if-s-e.false))
+    (sym c.goes_second.ensures ∙ c.if-not-goes_second.false) c.in-Some.e
+    (skipped_some c.in-Some.ensures).0 (skipped_some c.in-Some.ensures).1 (omega (arith, c.if-s-e.false))
     (sym c.value-2.ensures ∙ c.if-value.false)
