@@ -1,5 +1,5 @@
 -- The dispatch: by the code at the place of evaluation, which kind of step it is. `Acts` is the contract; each law is one code.
-use Rattle.std.specs.Prelude.{◌≡◌, ℕ, ◌<◌, true, false, List, length, slice_index, slice_index_or}
+use Rattle.std.specs.Prelude.{◌≡◌, ℕ, ◌<◌, true, false, List, length, slice_index, slice_index_or, Err}
 use Rattle.std.proofs.Math.Path.{refl, sym}
 use Rattle.std.proofs.Common.{◌∙◌, true≢false, arith, ltb-true}
 use Rattle.std.proofs.Math.Option.{some}
@@ -18,19 +18,13 @@ use Rattle.slots.specs.Walk.{skip_of}
 use Rattle.slots.specs.WayStep.{ready}
 use Rattle.slots.specs.Coded.{Coded, coded_by, is_unit, is_num, is_var, is_fun, is_app, is_cell, is_read, is_write, is_fork}
 use Rattle.slots.specs.Coded.{is_newlock, is_sync, is_bind, is_seq, is_add, is_cond, is_lock_at, is_cell_at, is_inside}
-use Rattle.machine.specs.declared.act.Card.{Card as Limits}
-use Rattle.machine.specs.declared.act.Act.{Act}
-use Rattle.machine.specs.declared.act.Act.TheVariants.{Stuck}
-use Rattle.machine.specs.Means.{Part, Means, is_stuck}
+use Rattle.machine.specs.declared.answer.NoStep.TheVariants.{IsStuck}
+use Rattle.machine.specs.Means.{Part, Act, Means, is_stuck}
 use Rattle.machine.specs.Parts.{part_first}
 use Rattle.machine.specs.Inner.{one_part, two_parts, three_parts, section_lock, section_part}
 use Rattle.machine.specs.Kinds.{Applied, LetBound, WentOn, LockMade, CellMade, CellRead, CellWritten, Forked, LockTaken}
 use Rattle.machine.specs.Kinds.{LockReleased, Added, Branched}
 use Rattle.machine.specs.Doing.{by_yes}
-
--- the card that the code was handed
-abbrev pub card_of : Limits → Card
-card_of k = record { threads = k.threads; thread_bytes = k.thread_bytes; cells = k.cells; cell_bytes = k.cell_bytes; locks = k.locks }
 
 -- for the term whose bytes they are, and any state that the buffer holds, the answer means its move
 pub record Acts (card : Card) (s state : List ℕ) (room : ℕ) (out : List ℕ) (r : Act) : Type 0 where
@@ -197,11 +191,11 @@ pub record Other (c : ℕ) : Type 0 where
   pub no_section : c ≡ 18 → ⊥
 
 -- what has no part that is evaluated, and is no value, is a variable: it is stuck
-pub acts_else : {card : Card} {s state : List ℕ} {room : ℕ} {out : List ℕ} → Other (slice_index s 0) → Acts card s state room out Stuck
+pub acts_else : {card : Card} {s state : List ℕ} {room : ℕ} {out : List ℕ} → Other (slice_index s 0) → Acts card s state room out (Err IsStuck)
 unfolding move value
 acts_else {card} {s} {state} {room} {out} n = record { does = λ S h x t y v w. go S (coded_by (slice_index s 0) x (sym (part_first t))) n v }
   where
-    go : (S : State) {c : ℕ} {x : Term} → Coded c x → Other c → value x ≡ false → Means card S s room out Stuck (move card S x)
+    go : (S : State) {c : ℕ} {x : Term} → Coded c x → Other c → value x ≡ false → Means card S s room out (Err IsStuck) (move card S x)
     go S is_unit n v = absurd (true≢false v)
     go S (is_num k) n v = absurd (true≢false v)
     go S (is_var k) n v = is_stuck

@@ -1,5 +1,5 @@
 -- The contract of the step on a buffer that holds a state, and what its parts are handed.
-use Rattle.std.specs.Prelude.{◌≡◌, ℕ, ◌*◌, ◌<◌, ◌≤◌, false, List, length, slice_index_or, refl}
+use Rattle.std.specs.Prelude.{◌≡◌, ℕ, ◌*◌, ◌<◌, ◌≤◌, false, List, length, slice_index_or, refl, Ok, Err}
 use Rattle.std.proofs.Common.{sym, ap, ◌∙◌}
 use Rattle.paper.specs.Terms.{Term, term_bytes, value}
 use Rattle.paper.specs.States.{State, Card, Holds, Fits}
@@ -8,21 +8,22 @@ use Rattle.paper.specs.Cases.{StepCase, told}
 use Rattle.laws.specs.CaseLaws.{told_injective}
 use Rattle.slots.specs.WayTerm.{found}
 use Rattle.machine.specs.declared.step.Due.{Due}
-use Rattle.machine.specs.declared.step.Step.{Step}
-use Rattle.machine.specs.declared.step.Step.TheVariants.{Made, BufferShort, NoState, NoSuchThread, IsFinished, WaitsFor, IsStuck, TooMany, TooLong}
+use Rattle.machine.specs.declared.answer.Kind.{Kind}
+use Rattle.machine.specs.declared.answer.NoStep.TheVariants.{BufferShort, NoState, NoSuchThread, IsFinished, WaitsFor, IsStuck, TooMany, TooLong}
+use Rattle.machine.specs.Answer.{Step, kind_number, kind_of, kind_kept}
 use Rattle.machine.specs.DuePart.{Parted}
 
 -- the code's answer, as the paper's case
 abbrev pub case_of : Step → StepCase
-case_of (Made k n) = StepCase.made k n
-case_of BufferShort = StepCase.buffer_short
-case_of NoState = StepCase.no_state
-case_of NoSuchThread = StepCase.no_such_thread
-case_of IsFinished = StepCase.is_finished
-case_of (WaitsFor l) = StepCase.waits_for l
-case_of IsStuck = StepCase.is_stuck
-case_of TooMany = StepCase.too_many
-case_of TooLong = StepCase.too_long
+case_of (Ok m) = StepCase.made (kind_number m.kind) m.number
+case_of (Err BufferShort) = StepCase.buffer_short
+case_of (Err NoState) = StepCase.no_state
+case_of (Err NoSuchThread) = StepCase.no_such_thread
+case_of (Err IsFinished) = StepCase.is_finished
+case_of (Err (WaitsFor l)) = StepCase.waits_for l
+case_of (Err IsStuck) = StepCase.is_stuck
+case_of (Err TooMany) = StepCase.too_many
+case_of (Err TooLong) = StepCase.too_long
 
 -- the answer and the whole buffer are the paper's
 pub record Answers (card : Card) (before : List ℕ) (i : ℕ) (after : List ℕ) (r : Step) : Type 0 where
@@ -30,27 +31,27 @@ pub record Answers (card : Card) (before : List ℕ) (i : ℕ) (after : List ℕ
 
 -- it fixes both
 step_of : StepCase → Step
-step_of (StepCase.made k n) = Made k n
-step_of StepCase.buffer_short = BufferShort
-step_of StepCase.no_state = NoState
-step_of StepCase.no_such_thread = NoSuchThread
-step_of StepCase.is_finished = IsFinished
-step_of (StepCase.waits_for l) = WaitsFor l
-step_of StepCase.is_stuck = IsStuck
-step_of StepCase.too_many = TooMany
-step_of StepCase.too_long = TooLong
+step_of (StepCase.made k n) = Ok (record { kind = kind_of k; number = n })
+step_of StepCase.buffer_short = Err BufferShort
+step_of StepCase.no_state = Err NoState
+step_of StepCase.no_such_thread = Err NoSuchThread
+step_of StepCase.is_finished = Err IsFinished
+step_of (StepCase.waits_for l) = Err (WaitsFor l)
+step_of StepCase.is_stuck = Err IsStuck
+step_of StepCase.too_many = Err TooMany
+step_of StepCase.too_long = Err TooLong
 
 back : (r : Step) → step_of (case_of r) ≡ r
 unfolding step_of
-back (Made k n) = refl
-back BufferShort = refl
-back NoState = refl
-back NoSuchThread = refl
-back IsFinished = refl
-back (WaitsFor l) = refl
-back IsStuck = refl
-back TooMany = refl
-back TooLong = refl
+back (Ok m) = ap (λ (k : Kind). Ok (record { kind = k; number = m.number })) (kind_kept m.kind)
+back (Err BufferShort) = refl
+back (Err NoState) = refl
+back (Err NoSuchThread) = refl
+back (Err IsFinished) = refl
+back (Err (WaitsFor l)) = refl
+back (Err IsStuck) = refl
+back (Err TooMany) = refl
+back (Err TooLong) = refl
 
 pub answers_one : {card : Card} {before : List ℕ} {i : ℕ} {after after' : List ℕ} {r r' : Step} → Answers card before i after r
     → Answers card before i after' r' → (r ≡ r') × (after ≡ after')
@@ -64,17 +65,6 @@ pub record Held (card : Card) (state : List ℕ) : Type 0 where
   pub short : card.thread_bytes ≤ 2048
   pub held : State
   pub holds : Holds card state held
-
--- what is lent to a step: for a copy of the part that makes it, for what that becomes, and for the stack of a pass over it
-pub record Scratch (old out stack : List ℕ) : Type 0 where
-  pub copy : length old ≡ 2048
-  pub after : length out ≡ 2048
-  pub deep : length stack ≡ 4096
-
--- a buffer keeps its length
-pub scratch_kept : {old out stack old' out' stack' : List ℕ} → Scratch old out stack → length old' ≡ length old → length out' ≡ length out
-    → length stack' ≡ length stack → Scratch old' out' stack'
-scratch_kept w a b c = record { copy = a ∙ w.copy; after = b ∙ w.after; deep = c ∙ w.deep }
 
 -- the buffer holds a state, thread i of it is no value, and the part of it that is due has the bytes s
 pub record Running (card : Card) (state : List ℕ) (i : ℕ) (d : Due) (s out stack : List ℕ) : Type 0 where

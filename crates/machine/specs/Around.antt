@@ -1,6 +1,6 @@
 -- What a caller goes by beside the contract: the answers 1 and 18, which come first, and that a buffer holds a state after a step as before it, so
 -- that a run of steps tests its bytes once.
-use Rattle.std.specs.Prelude.{◌≡◌, ℕ, ◌<◌, ◌≤◌, Bool, true, false, List, length, ◌==◌, refl}
+use Rattle.std.specs.Prelude.{◌≡◌, ℕ, ◌<◌, ◌≤◌, Bool, true, false, List, length, ◌==◌, refl, Err}
 use Rattle.std.proofs.Common.{sym, ap, ◌∙◌, subst}
 use Rattle.std.proofs.Math.Option.{none}
 use Rattle.paper.specs.Base.{choose}
@@ -13,15 +13,15 @@ use Rattle.paper.specs.Cases.{told}
 use Rattle.laws.specs.CallLaws.{laid_holds, step_call_lem, step_short, step_foreign}
 use Rattle.laws.specs.Keeping.{good_step}
 use Rattle.plans.specs.ByteAt.{holds_long}
-use Rattle.machine.specs.declared.step.Step.{Step}
-use Rattle.machine.specs.declared.step.Step.TheVariants.{BufferShort, NoState}
+use Rattle.machine.specs.declared.answer.NoStep.TheVariants.{BufferShort, NoState}
+use Rattle.machine.specs.Answer.{Step}
 use Rattle.machine.specs.Answering.{Answers, Held}
 
-pub answers_short : {card : Card} {s : List ℕ} (i : ℕ) → length s < total card → Answers card s i s BufferShort
+pub answers_short : {card : Card} {s : List ℕ} (i : ℕ) → length s < total card → Answers card s i s (Err BufferShort)
 unfolding told
 answers_short {card} {s} i h = record { says = step_short card s h i }
 
-pub answers_foreign : {card : Card} {s : List ℕ} (i : ℕ) → total card ≤ length s → state_of card s ≡ none → Answers card s i s NoState
+pub answers_foreign : {card : Card} {s : List ℕ} (i : ℕ) → total card ≤ length s → state_of card s ≡ none → Answers card s i s (Err NoState)
 unfolding told
 answers_foreign {card} {s} i h e = record { says = step_foreign card s h e i }
 

@@ -6,7 +6,7 @@ use Rattle.paper.specs.Steps.{Answer, step}
 use Rattle.paper.specs.Calls.{StepCall, step_call, laid}
 use Rattle.laws.specs.RunLaws.{Still, still, moves, step_still, laid_same, Buffer, call_says, call_state}
 use Rattle.plans.specs.ByteAt.{holds_long}
-use Rattle.machine.specs.declared.step.Step.{Step}
+use Rattle.machine.specs.Answer.{Step}
 use Rattle.machine.specs.Answering.{Answers, Held}
 use Rattle.machine.specs.Numbers.{Numbers}
 use Rattle.machine.specs.Around.{answers_held}

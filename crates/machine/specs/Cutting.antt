@@ -1,7 +1,7 @@
 -- Where the parts of the part that makes the step stand, by the code: within its bytes, so that they can be lent.
-use Rattle.std.specs.Prelude.{◌≡◌, ℕ, List, length, ◌≢◌, slice_index, slice_index_or}
+use Rattle.std.specs.Prelude.{◌≡◌, ℕ, ◌<◌, List, length, Option, Some, slice_index, slice_index_or}
 use Rattle.std.proofs.Math.Path.{refl}
-use Rattle.std.proofs.Common.{sym, ◌∙◌}
+use Rattle.std.proofs.Common.{sym, ◌∙◌, arith}
 use Rattle.paper.specs.Terms.{Term, term_bytes}
 use Rattle.slots.specs.Walk.{skip_of}
 use Rattle.slots.specs.Coded.{Coded, coded_by, is_app, is_cell, is_read, is_write}
@@ -10,15 +10,15 @@ use Rattle.machine.specs.Means.{Cut, Cut2, Cut3, Part, part_cut}
 use Rattle.machine.specs.Parts.{part_first}
 use Rattle.machine.specs.Inner.{one_part, two_parts, three_parts, section_part}
 
--- the second part, behind the one that stands next to the code, begins at e, or e is 0
-abbrev pub Second : List ℕ → ℕ → Type 0
-Second s e = (e ≢ 0) → e ≡ skip_of s 1
+-- where the second part begins, behind the one that stands next to the code, if that is known
+abbrev pub Second : List ℕ → Option ℕ → Type 0
+Second s second = (e : ℕ) → second ≡ Some e → e ≡ skip_of s 1
 
--- the bytes are those of some term, with its second part, if it has one, at e
-pub record Redex (s : List ℕ) (e : ℕ) : Type 0 where
+-- the bytes are those of some term, and its second part, if it has one, begins there
+pub record Redex (s : List ℕ) (second : Option ℕ) : Type 0 where
   pub term : Term
   pub there : Part s 0 (length s) term
-  pub second : Second s e
+  pub begins : Second s second
 
 -- the codes of one part that is looked at, and of two
 pub data One : ℕ → Type 0 where
@@ -31,9 +31,10 @@ pub data Two : ℕ → Type 0 where
   of_write : Two 8
   of_sync : Two 11
   of_bind : Two 12
+  of_seq : Two 13
   of_add : Two 14
 
-module _ {s : List ℕ} {e : ℕ} (r : Redex s e) where
+module _ {s : List ℕ} {second : Option ℕ} (r : Redex s second) where
   coded : (c : ℕ) → slice_index s 0 ≡ c → Coded c r.term
   coded c e = coded_by c r.term (sym (part_first r.there) ∙ e)
 
@@ -64,14 +65,12 @@ module _ {s : List ℕ} {e : ℕ} (r : Redex s e) where
       go {t = t} of_write h (is_write a b) = cut_both (two_parts 8 t h f a b refl)
       go {t = t} of_sync h (is_sync a b) = cut_both (two_parts 11 t h f a b refl)
       go {t = t} of_bind h (is_bind a b) = cut_both (two_parts 12 t h f a b refl)
+      go {t = t} of_seq h (is_seq a b) = cut_both (two_parts 13 t h f a b refl)
       go {t = t} of_add h (is_add a b) = cut_both (two_parts 14 t h f a b refl)
 
-  pub seq_cut : {g : ℕ} → slice_index s 0 ≡ 13 → g ≡ skip_of s 1 → Cut s g (length s)
-  unfolding term_bytes
-  seq_cut {g} e f = go r.there (coded 13 e)
-    where
-      go : {t : Term} → Part s 0 (length s) t → Coded 13 t → Cut s g (length s)
-      go {t} h (is_seq a b) = part_cut (two_parts 13 t h f a b refl).1
+  -- the first of two parts, or of three, ends where the code looks for the second
+  pub two_stands : {c : ℕ} → Two c → slice_index s 0 ≡ c → 1 < skip_of s 1
+  two_stands k e = (two_cut k e refl).first
 
   pub cond_cut : {g k : ℕ} → slice_index s 0 ≡ 15 → g ≡ skip_of s 1 → k ≡ skip_of s g → Cut3 s 1 g k (length s)
   unfolding term_bytes
@@ -84,3 +83,9 @@ module _ {s : List ℕ} {e : ℕ} (r : Redex s e) where
           let y = part_cut w.1 in
           let z = part_cut w.2 in
           record { first = x.some; second = y.some; third = z.some; inside = z.inside }
+
+  pub cond_stands : slice_index s 0 ≡ 15 → 1 < skip_of s 1
+  cond_stands e = (cond_cut e refl refl).first
+
+  pub cond_third : {g : ℕ} → slice_index s 0 ≡ 15 → g ≡ skip_of s 1 → 0 < skip_of s g
+  cond_third e f = let k = cond_cut e f refl in let l = k.second in omega arith

@@ -1,5 +1,5 @@
 -- Each way of each kind of step: what the code found and did is the paper's move.
-use Rattle.std.specs.Prelude.{◌≡◌, ℕ, ◌+◌, ◌-◌, ◌*◌, ◌/◌, ◌%◌, ◌^◌, ◌<◌, ◌≤◌, Bool, true, false, List, [], ◌∷◌, ◌++◌, length, take, drop, ◌==◌, ◌≢◌, nat_le, nat_lt, slice_index, slice_index_or, refl}
+use Rattle.std.specs.Prelude.{◌≡◌, ℕ, ◌+◌, ◌-◌, ◌*◌, ◌/◌, ◌%◌, ◌^◌, ◌<◌, ◌≤◌, Bool, true, false, List, [], ◌∷◌, ◌++◌, length, take, drop, ◌==◌, ◌≢◌, nat_le, nat_lt, slice_index, slice_index_or, Err, refl}
 use Rattle.std.proofs.Common.{sym, ap₂, ◌∙◌, subst, append-nil, arith, length-take, length-drop, le-leb, lt-ltb, le-ltb, eq-eqb, ne_eqb}
 use Rattle.std.proofs.Math.Path.{ap}
 use Rattle.std.proofs.Math.Option.{Option, none, some}
@@ -12,10 +12,10 @@ use Rattle.paper.specs.Steps.{Move, full, goes, nothing, new_cell, new_lock, rel
 use Rattle.slots.specs.Put.{piece, put_in, Put}
 use Rattle.slots.specs.PutTerm.{put_whole}
 use Rattle.writing.specs.Written.{Written}
-use Rattle.machine.specs.declared.act.Act.{Act}
-use Rattle.machine.specs.declared.act.Act.TheVariants.{Stuck, Full, Long, Waits, Goes}
+use Rattle.machine.specs.declared.answer.Kind.TheVariants as kind
+use Rattle.machine.specs.declared.answer.NoStep.TheVariants.{WaitsFor, IsStuck, TooMany, TooLong}
 use Rattle.machine.specs.declared.act.Also.TheVariants.{Nothing, NewCell, SetCell, NewLock, Taken, Released, NewThread}
-use Rattle.machine.specs.Means.{Short, part_bytes, Became, wrote, Means, is_stuck, is_full, is_long, is_waits, is_goes}
+use Rattle.machine.specs.Means.{Short, part_bytes, Became, wrote, Act, going, Means, is_stuck, is_full, is_long, is_waits, is_goes}
 use Rattle.machine.specs.Means.{is_nothing, is_new_cell, is_set_cell, is_new_lock, is_taken, is_released, is_new_thread}
 use Rattle.machine.specs.Parts.{not_function, not_number, not_lock, not_cell, function_there, lock_there, cell_there, number_there}
 use Rattle.machine.specs.Kinds.{Applied, LetBound, WentOn, LockMade, CellMade, CellRead, CellWritten, Forked, LockTaken}
@@ -24,7 +24,7 @@ use Rattle.machine.specs.Kinds.{LockReleased, Added, Branched}
 -- ---- a test of the definition, passed or failed
 
 module _ {card : Card} {S : State} {s : List ℕ} {room : ℕ} {out : List ℕ} {r : Act} where
-  by_none : {X : Type 0} (o : Option X) (k : X → Move) → o ≡ none → r ≡ Stuck → Means card S s room out r (or_stuck o k)
+  by_none : {X : Type 0} (o : Option X) (k : X → Move) → o ≡ none → r ≡ Err IsStuck → Means card S s room out r (or_stuck o k)
   by_none o k e z = rw (e, z) is_stuck
 
   by_some : {X : Type 0} (o : Option X) (k : X → Move) (x : X) → o ≡ some x → Means card S s room out r (k x) → Means card S s room out r (or_stuck o k)
@@ -60,7 +60,7 @@ module _ {s st : List ℕ} (short : Short s st) {before after st' : List ℕ} wh
   -- ---- apply, let, new lock
 
   pub apply_done : {g n : ℕ} → slice_index s 1 ≡ 4 → Put (piece s 2 g) (piece s g (length s)) before 0 after st st' n
-      → Applied s g (length before) after (Goes 1 0 n Nothing)
+      → Applied s g (length before) after (going kind.Apply 0 n Nothing)
   apply_done {g} z w = record {
     does = λ card S a b x y.
         let f = function_there x z in
@@ -68,23 +68,23 @@ module _ {s st : List ℕ} (short : Short s st) {before after st' : List ℕ} wh
   }
 
   pub bind_done : {g n : ℕ} → Put (piece s g (length s)) (piece s 1 g) before 0 after st st' n
-      → LetBound s g (length before) after (Goes 9 0 n Nothing)
+      → LetBound s g (length before) after (going kind.Let 0 n Nothing)
   bind_done {g} w = record { does = λ card S a b x y. is_goes (put_made g (length s) w b a (part_bytes y) (part_bytes x)) is_nothing }
 
   pub lock_made_lem : {count most n : ℕ} → count < most → Put (piece s 1 (length s)) (16 ∷ count ∷ []) before 0 after st st' n
-      → LockMade s count most (length before) after (Goes 6 count n NewLock)
+      → LockMade s count most (length before) after (going kind.LockMade count n NewLock)
   unfolding term_bytes
   lock_made_lem {count} {n = n} h w = record {
     does = λ card S e x c m.
         by_yes (nat_lt (length S.marks) card.locks) _ _ (lt-ltb (length S.marks) card.locks (omega arith))
-        (subst (λ l. Means card S s (length before) after (Goes 6 count n NewLock) (goes 6 l (put 0 (Term.lock_at l) e) new_lock)) (sym c)
+        (subst (λ l. Means card S s (length before) after (going kind.LockMade count n NewLock) (goes 6 l (put 0 (Term.lock_at l) e) new_lock)) (sym c)
         (is_goes (put_made 1 (length s) w e (Term.lock_at count) (part_bytes x) refl) (is_new_lock (omega arith))));
   }
 
-pub apply_stuck : {s : List ℕ} {g room : ℕ} {out : List ℕ} → (slice_index s 1 ≢ 4) → Applied s g room out Stuck
+pub apply_stuck : {s : List ℕ} {g room : ℕ} {out : List ℕ} → (slice_index s 1 ≢ 4) → Applied s g room out (Err IsStuck)
 apply_stuck n = record { does = λ card S a b x y. by_none (as_function a) _ (not_function x n) refl }
 
-pub lock_full : {s : List ℕ} {count most room : ℕ} {out : List ℕ} → most ≤ count → LockMade s count most room out Full
+pub lock_full : {s : List ℕ} {count most room : ℕ} {out : List ℕ} → most ≤ count → LockMade s count most room out (Err TooMany)
 lock_full h = record {
   does = λ card S e x c m. by_no (nat_lt (length S.marks) card.locks) _ _ (le-ltb (length S.marks) card.locks (omega arith)) is_full;
 }
@@ -92,18 +92,18 @@ lock_full h = record {
 -- ---- then
 
 pub then_done : {s : List ℕ} {g n : ℕ} {before after : List ℕ} → Written (take 0 before ++ piece s g (length s)) before after n
-    → WentOn s g (length before) after (Goes 10 0 n Nothing)
+    → WentOn s g (length before) after (going kind.Then 0 n Nothing)
 then_done w = record { does = λ card S b y. is_goes (wrote b w (part_bytes y)) is_nothing }
 
 -- ---- new cell
 
 module _ {s : List ℕ} {count most size room : ℕ} {out : List ℕ} where
-  pub cell_full : most ≤ count → CellMade s count most size room out Full
+  pub cell_full : most ≤ count → CellMade s count most size room out (Err TooMany)
   cell_full h = record {
     does = λ card S a x c m b. by_no (nat_lt (length S.cells) card.cells) _ _ (le-ltb (length S.cells) card.cells (omega arith)) is_full;
   }
 
-  pub cell_long : count < most → size < length s - 1 → CellMade s count most size room out Long
+  pub cell_long : count < most → size < length s - 1 → CellMade s count most size room out (Err TooLong)
   cell_long h l = record {
     does = λ card S a x c m b.
         let t = x.to in
@@ -112,26 +112,26 @@ module _ {s : List ℕ} {count most size room : ℕ} {out : List ℕ} where
   }
 
 pub cell_made_lem : {s : List ℕ} {count most size n : ℕ} {before after : List ℕ} → count < most → length s - 1 ≤ size
-    → Written (take 0 before ++ (17 ∷ count ∷ [])) before after n → CellMade s count most size (length before) after (Goes 2 count n NewCell)
+    → Written (take 0 before ++ (17 ∷ count ∷ [])) before after n → CellMade s count most size (length before) after (going kind.CellMade count n NewCell)
 unfolding term_bytes
 cell_made_lem {s} {count} {n = n} {before} {after} h l w = record {
   does = λ card S a x c m b.
       let t = x.to in
       by_yes (nat_lt (length S.cells) card.cells) _ _ (lt-ltb (length S.cells) card.cells (omega arith))
       (by_yes (nat_le (length (term_bytes a)) card.cell_bytes) _ _ (le-leb (length (term_bytes a)) card.cell_bytes (omega arith))
-      (subst (λ j. Means card S s (length before) after (Goes 2 count n NewCell) (goes 2 j (Term.cell_at j) (new_cell a))) (sym c)
+      (subst (λ j. Means card S s (length before) after (going kind.CellMade count n NewCell) (goes 2 j (Term.cell_at j) (new_cell a))) (sym c)
       (is_goes (wrote (Term.cell_at count) w refl) (is_new_cell (omega arith) (omega arith) x))));
 }
 
 -- ---- read
 
 module _ {s state : List ℕ} {from size room : ℕ} {out : List ℕ} where
-  pub read_stuck : (slice_index s 1 ≢ 17) → CellRead s state from size room out Stuck
+  pub read_stuck : (slice_index s 1 ≢ 17) → CellRead s state from size room out (Err IsStuck)
   read_stuck n = record { does = λ card S a x c. by_none (as_cell a) _ (not_cell x n) refl }
 
   -- a cell's slot has room for its value, and the state for the slot
   module _ {j n : ℕ} (z : slice_index_or s 1 0 ≡ 17) (ej : j ≡ at s 2) (en : n ≡ word16 state (70 + 2 * j)) where
-    pub read_slot : size < n → CellRead s state from size room out Stuck
+    pub read_slot : size < n → CellRead s state from size room out (Err IsStuck)
     read_slot l = record {
       does = λ card S a x c.
           let w = c j (cell_there x z ∙ ap some (sym ej)) in
@@ -140,7 +140,7 @@ module _ {s state : List ℕ} {from size room : ℕ} {out : List ℕ} where
           absurd (omega arith);
     }
 
-    pub read_end : n ≤ size → length state < from + size * j + n → CellRead s state from size room out Stuck
+    pub read_end : n ≤ size → length state < from + size * j + n → CellRead s state from size room out (Err IsStuck)
     read_end l m = record {
       does = λ card S a x c.
           let w = c j (cell_there x z ∙ ap some (sym ej)) in
@@ -150,7 +150,7 @@ module _ {s state : List ℕ} {from size room : ℕ} {out : List ℕ} where
 
 pub read_done : {s state : List ℕ} {from size j n m : ℕ} {before after : List ℕ} → slice_index s 1 ≡ 17 → j ≡ at s 2
     → n ≡ word16 state (70 + 2 * j) → Written (take 0 before ++ (piece state (from + size * j) (from + size * j + n))) before after m
-    → CellRead s state from size (length before) after (Goes 3 j m Nothing)
+    → CellRead s state from size (length before) after (going kind.Read j m Nothing)
 read_done {state = state} {from} {size} {j} {n} z ej en w = record {
   does = λ card S a x c.
       let e = cell_there x z ∙ ap some (sym ej) in
@@ -165,10 +165,10 @@ read_done {state = state} {from} {size} {j} {n} z ej en w = record {
 -- ---- write
 
 module _ {s : List ℕ} {g size room : ℕ} {out : List ℕ} where
-  pub write_stuck : (slice_index s 1 ≢ 17) → CellWritten s g size room out Stuck
+  pub write_stuck : (slice_index s 1 ≢ 17) → CellWritten s g size room out (Err IsStuck)
   write_stuck n = record { does = λ card S a b x y c. by_none (as_cell a) _ (not_cell x n) refl }
 
-  pub write_long : slice_index_or s 1 0 ≡ 17 → size < length s - g → CellWritten s g size room out Long
+  pub write_long : slice_index_or s 1 0 ≡ 17 → size < length s - g → CellWritten s g size room out (Err TooLong)
   write_long z l = record {
     does = λ card S a b x y c.
         let t = y.to in
@@ -177,7 +177,7 @@ module _ {s : List ℕ} {g size room : ℕ} {out : List ℕ} where
   }
 
 pub write_done : {s : List ℕ} {g size j n : ℕ} {before after : List ℕ} → slice_index s 1 ≡ 17 → j ≡ at s 2 → length s - g ≤ size
-    → Written (take 0 before ++ (1 ∷ [])) before after n → CellWritten s g size (length before) after (Goes 4 j n (SetCell j g))
+    → Written (take 0 before ++ (1 ∷ [])) before after n → CellWritten s g size (length before) after (going kind.Write j n (SetCell j g))
 unfolding term_bytes
 write_done {j = j} z ej l w = record {
   does = λ card S a b x y c.
@@ -197,11 +197,11 @@ a_place : (card : Card) (S : State) → length S.threads < card.threads → new_
 unfolding new_place
 a_place card S h = rw (lt-ltb (length S.threads) card.threads h)
 
-pub fork_full : {s : List ℕ} {count most room : ℕ} {out : List ℕ} → most ≤ count → Forked s count most room out Full
+pub fork_full : {s : List ℕ} {count most room : ℕ} {out : List ℕ} → most ≤ count → Forked s count most room out (Err TooMany)
 fork_full h = record { does = λ card S e x c m. by_no_place (new_place card S) e (no_place card S (omega arith)) is_full }
 
 pub fork_done : {s : List ℕ} {count most n : ℕ} {before after : List ℕ} → count < most → Written (take 0 before ++ (1 ∷ [])) before after n
-    → Forked s count most (length before) after (Goes 5 count n (NewThread count))
+    → Forked s count most (length before) after (going kind.Fork count n (NewThread count))
 unfolding term_bytes
 fork_done {count = count} h w = record {
   does = λ card S e x c m.
@@ -212,11 +212,11 @@ fork_done {count = count} h w = record {
 -- ---- take and release
 
 module _ {s : List ℕ} {g : ℕ} {state : List ℕ} where
-  pub take_stuck : {room : ℕ} {out : List ℕ} → (slice_index s 1 ≢ 16) → LockTaken s g state room out Stuck
+  pub take_stuck : {room : ℕ} {out : List ℕ} → (slice_index s 1 ≢ 16) → LockTaken s g state room out (Err IsStuck)
   take_stuck n = record { does = λ card S a b x y m. by_none (as_lock a) _ (not_lock x n) refl }
 
   module _ {l : ℕ} (z : slice_index_or s 1 0 ≡ 16) (el : l ≡ at s 2) where
-    pub take_waits : {room : ℕ} {out : List ℕ} → (at state (6 + l) ≢ 0) → LockTaken s g state room out (Waits l)
+    pub take_waits : {room : ℕ} {out : List ℕ} → (at state (6 + l) ≢ 0) → LockTaken s g state room out (Err (WaitsFor l))
     take_waits n = record {
       does = λ card S a b x y m.
           let e = lock_there x z ∙ ap some (sym el) in
@@ -225,7 +225,7 @@ module _ {s : List ℕ} {g : ℕ} {state : List ℕ} where
 
     pub take_done : {n : ℕ} {before after : List ℕ} → at state (6 + l) ≡ 0
         → Written (take 0 before ++ ((18 ∷ l ∷ []) ++ piece s g (length s))) before after n
-        → LockTaken s g state (length before) after (Goes 7 l n (Taken l))
+        → LockTaken s g state (length before) after (going kind.Take l n (Taken l))
     unfolding term_bytes
     take_done k w = record {
       does = λ card S a b x y m.
@@ -236,27 +236,27 @@ module _ {s : List ℕ} {g : ℕ} {state : List ℕ} where
     }
 
 pub release_done : {s : List ℕ} {l n : ℕ} {before after : List ℕ} → l ≡ at s 1 → Written (take 0 before ++ piece s 2 (length s)) before after n
-    → LockReleased s (length before) after (Goes 8 l n (Released l))
+    → LockReleased s (length before) after (going kind.Release l n (Released l))
 release_done {s} {l} {n} {before} {after} el w = record {
   does = λ card S k e x h.
-      subst (λ j. Means card S s (length before) after (Goes 8 l n (Released l)) (goes 8 j e (released j))) (el ∙ h)
+      subst (λ j. Means card S s (length before) after (going kind.Release l n (Released l)) (goes 8 j e (released j))) (el ∙ h)
       (is_goes (wrote e w (part_bytes x)) is_released);
 }
 
 -- ---- add and if
 
 module _ {s : List ℕ} {g : ℕ} where
-  pub add_stuck : {room : ℕ} {out : List ℕ} → (slice_index s 1 ≢ 2) → Added s g room out Stuck
+  pub add_stuck : {room : ℕ} {out : List ℕ} → (slice_index s 1 ≢ 2) → Added s g room out (Err IsStuck)
   add_stuck n = record { does = λ card S a b x y k l. by_none (as_number a) _ (not_number x n) refl }
 
-  pub add_stuck_too : {room : ℕ} {out : List ℕ} → slice_index s 1 ≡ 2 → (slice_index s g ≢ 2) → Added s g room out Stuck
+  pub add_stuck_too : {room : ℕ} {out : List ℕ} → slice_index s 1 ≡ 2 → (slice_index s g ≢ 2) → Added s g room out (Err IsStuck)
   add_stuck_too z n = record {
     does = λ card S a b x y k l. by_some (as_number a) _ (word32 s 2) (number_there x z k) (by_none (as_number b) _ (not_number y n) refl);
   }
 
   pub add_done : {n m : ℕ} {before after : List ℕ} → slice_index s 1 ≡ 2 → slice_index s g ≡ 2 → n ≡ (word32 s 2 + word32 s (g + 1)) % 2 ^ 32
       → Written (take 0 before ++ (2 ∷ n / 16777216 % 256 ∷ n / 65536 % 256 ∷ n / 256 % 256 ∷ n % 256 ∷ [])) before after m
-      → Added s g (length before) after (Goes 11 0 m Nothing)
+      → Added s g (length before) after (going kind.Add 0 m Nothing)
   unfolding term_bytes bytes4
   add_done {n} y z e w = record {
     does = λ card S a b x u k l.
@@ -266,24 +266,24 @@ module _ {s : List ℕ} {g : ℕ} where
   }
 
 module _ {s : List ℕ} {g h : ℕ} where
-  pub branch_stuck : {room : ℕ} {out : List ℕ} → (slice_index s 1 ≢ 2) → Branched s g h room out Stuck
+  pub branch_stuck : {room : ℕ} {out : List ℕ} → (slice_index s 1 ≢ 2) → Branched s g h room out (Err IsStuck)
   branch_stuck n = record { does = λ card S a b e x y z k. by_none (as_number a) _ (not_number x n) refl }
 
   module _ {before after : List ℕ} {m n : ℕ} (t : slice_index_or s 1 0 ≡ 2) (en : n ≡ word32 s 2) where
     pub branch_else : n ≡ 0 → Written (take 0 before ++ piece s h (length s)) before after m
-        → Branched s g h (length before) after (Goes 12 0 m Nothing)
+        → Branched s g h (length before) after (going kind.If 0 m Nothing)
     branch_else e0 w = record {
       does = λ card S a b e x y z k.
           by_some (as_number a) _ n (number_there x t k ∙ ap some (sym en))
-          (subst (λ c. Means card S s (length before) after (Goes 12 0 m Nothing) (goes 12 0 (choose c (λ _. e) (λ _. b)) nothing)) (sym (eq-eqb n 0 e0))
+          (subst (λ c. Means card S s (length before) after (going kind.If 0 m Nothing) (goes 12 0 (choose c (λ _. e) (λ _. b)) nothing)) (sym (eq-eqb n 0 e0))
           (is_goes (wrote e w (part_bytes z)) is_nothing));
     }
 
     pub branch_then : (n ≢ 0) → Written (take 0 before ++ piece s g h) before after m
-        → Branched s g h (length before) after (Goes 12 0 m Nothing)
+        → Branched s g h (length before) after (going kind.If 0 m Nothing)
     branch_then e0 w = record {
       does = λ card S a b e x y z k.
           by_some (as_number a) _ n (number_there x t k ∙ ap some (sym en))
-          (subst (λ c. Means card S s (length before) after (Goes 12 0 m Nothing) (goes 12 0 (choose c (λ _. e) (λ _. b)) nothing)) (sym (ne_eqb n 0 e0))
+          (subst (λ c. Means card S s (length before) after (going kind.If 0 m Nothing) (goes 12 0 (choose c (λ _. e) (λ _. b)) nothing)) (sym (ne_eqb n 0 e0))
           (is_goes (wrote b w (part_bytes y)) is_nothing));
     }

@@ -1,5 +1,5 @@
 -- From a buffer that holds a state to thread i of it, and to the part of it that is due: its bytes, copied aside.
-use Rattle.std.specs.Prelude.{◌≡◌, ℕ, ◌+◌, ◌-◌, ◌*◌, ◌<◌, ◌≤◌, Bool, true, false, List, ◌++◌, length, take, drop, slice_index, slice_index_or, refl}
+use Rattle.std.specs.Prelude.{◌≡◌, ℕ, ◌+◌, ◌-◌, ◌*◌, ◌<◌, ◌≤◌, Bool, true, false, List, ◌++◌, length, take, drop, slice_index, slice_index_or, refl, Err}
 use Rattle.std.proofs.Common.{sym, ap, ◌∙◌, subst, append_assoc, le_refl, le_trans, le_of_lt, add-le-add, arith, lit<, drop-drop, le-leb, Fits}
 use Rattle.std.proofs.lemmas.List.{drop-append-le}
 use Rattle.std.specs.Int.{w64}
@@ -18,7 +18,7 @@ use Rattle.slots.specs.TermAt.{some_bytes, value_at}
 use Rattle.slots.specs.WayTerm.{found}
 use Rattle.writing.specs.Written.{Written, room_for}
 use Rattle.machine.specs.declared.step.Due.{Due}
-use Rattle.machine.specs.declared.step.Step.TheVariants.{NoSuchThread, IsFinished}
+use Rattle.machine.specs.declared.answer.NoStep.TheVariants.{NoSuchThread, IsFinished}
 use Rattle.machine.specs.Means.{Part, part_bytes, part_cut, became}
 use Rattle.machine.specs.Fitting.{slot_within}
 use Rattle.machine.specs.DuePart.{Whole, Parted, due_part}
@@ -41,7 +41,7 @@ all_of {res} {before} {r = r} w l h =
     (omega arith, ((became w).fits (omega arith)).0)
 
 module _ {card : Card} {state : List ℕ} (w : Held card state) {i count : ℕ} (c : count ≡ at state 3) where
-  pub held_nobody : count ≤ i → Answers card state i state NoSuchThread
+  pub held_nobody : count ≤ i → Answers card state i state (Err NoSuchThread)
   unfolding told
   held_nobody h = record {
     says = step_nobody card w.fits state w.held w.holds i (omega (arith, threads_read card w.fits state w.held w.holds));
@@ -68,7 +68,7 @@ module _ {card : Card} {state : List ℕ} (w : Held card state) {i count : ℕ} 
         let a = 256 + card.thread_bytes * i in
         sym (v ∙ value_at state a thread (drop (length (term_bytes thread)) (drop a state)) (filled_from slot))
 
-    pub held_finished : {v : Bool} → v ≡ is_value (slice_index state (256 + card.thread_bytes * i)) → v ≡ true → Answers card state i state IsFinished
+    pub held_finished : {v : Bool} → v ≡ is_value (slice_index state (256 + card.thread_bytes * i)) → v ≡ true → Answers card state i state (Err IsFinished)
     unfolding told
     held_finished v e = record {
       says = step_finished card w.fits state w.held w.holds i here (value_rests card w.held (is_value_lem thread (value_is v ∙ e)));
@@ -143,8 +143,8 @@ module _ {card : Card} {state : List ℕ} (w : Held card state) {i count : ℕ} 
           y : Written (term_bytes (found thread).redex) before old r
           y = subst (λ b. Written b before old r) (part_bytes within) x
 
-          pub held_all : length old ≡ length before → r ≤ length old
-          held_all k = let all = (all_of y l (let p = part_cut there in let t = there.to in let s = w.short in omega (arith, slot.fits))).0 in omega arith
+          pub held_all : r ≤ 2048
+          held_all = let all = (all_of y l (let p = part_cut there in let t = there.to in let s = w.short in omega (arith, slot.fits))).0 in omega arith
 
           pub held_running : {v : Bool} {out stack : List ℕ} → v ≡ is_value (slice_index state (256 + card.thread_bytes * i)) → v ≡ false
               → length out ≡ 2048 → length stack ≡ 4096 → Running card state i d (take r old) out stack

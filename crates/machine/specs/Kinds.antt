@@ -8,8 +8,7 @@ use Rattle.paper.specs.States.{Card, State}
 use Rattle.paper.specs.Steps.{nothing, released, goes, applies, makes_cell, reads, writes, forks, makes_lock, takes, adds, branches}
 use Rattle.laws.specs.TermBytes.{Numbers}
 use Rattle.plans.specs.Reads.{Filled}
-use Rattle.machine.specs.declared.act.Act.{Act}
-use Rattle.machine.specs.Means.{Part, Means}
+use Rattle.machine.specs.Means.{Part, Act, Means}
 
 pub record Applied (s : List ℕ) (g room : ℕ) (out : List ℕ) (r : Act) : Type 0 where
   pub does : (card : Card) (S : State) (a b : Term) → Part s 1 g a → Part s g (length s) b → Means card S s room out r (applies card S a b)

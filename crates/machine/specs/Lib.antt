@@ -1,6 +1,8 @@
 -- ---- what the code's answers mean
+pub mod Answer
 pub mod Fitting
 pub mod Means
+pub mod Skipping
 pub mod Kinds
 -- ---- the kinds of step
 pub mod Forms

@@ -1,5 +1,5 @@
 -- The step of the lowest-numbered thread that can, on a buffer that holds a state: its contract, and one law for each way of its loop.
-use Rattle.std.specs.Prelude.{◌≡◌, ℕ, zero, suc, ◌+◌, ◌-◌, ◌<◌, ◌≤◌, Bool, true, false, List, ◌≢◌, refl}
+use Rattle.std.specs.Prelude.{◌≡◌, ℕ, zero, suc, ◌+◌, ◌-◌, ◌<◌, ◌≤◌, Bool, true, false, List, ◌≢◌, is_ok, refl}
 use Rattle.std.proofs.Common.{sym, ◌∙◌, add-one, eq-eqb, ne_eqb}
 use Rattle.std.proofs.Math.Path.{ap, subst}
 use Rattle.std.proofs.Math.Option.{Option, none, some}
@@ -10,8 +10,11 @@ use Rattle.paper.specs.Steps.{step}
 use Rattle.paper.specs.Runs.{Made, tried, first_of, lowest}
 use Rattle.paper.specs.Calls.{laid}
 use Rattle.plans.specs.Reads.{threads_read}
-use Rattle.machine.specs.Answering.{Held}
-use Rattle.machine.specs.Calling.{Called, called_answer, called_state, called_still}
+use Rattle.paper.specs.Cases.{told}
+use Rattle.machine.specs.Answer.{Step}
+use Rattle.machine.specs.Answering.{Held, Answers, case_of}
+use Rattle.machine.specs.Numbers.{tells_made, tells_none}
+use Rattle.machine.specs.Calling.{Called, called, called_answer, called_state, called_still}
 
 -- whether there was one, and what it left
 pub data Lowest (card : Card) (before after : List ℕ) : Bool → Option Made → Type 0 where
@@ -71,20 +74,23 @@ module _ {card : Card} {before : List ℕ} {i : ℕ} {state : List ℕ} (s : See
         (none_can s.same);
   }
 
-  module _ (h : i < count) {after : List ℕ} {a : ℕ} (y : Called card state i after a) where
-    x : Called card before i after a
-    x = subst (λ b. Called card b i after a) s.same y
+  module _ (h : i < count) {j : ℕ} (number : j ≡ i) {after : List ℕ} {r : Step} (answers : Answers card state j after r) where
+    y : Called card state i after (told (case_of r)).answer
+    y = called s.held (subst (λ k. Answers card state k after r) number answers) (record { says = refl })
 
-    pub seeking_on : (a ≢ 0) → Seeking card before (i + 1) after
+    x : Called card before i after (told (case_of r)).answer
+    x = subst (λ b. Called card b i after (told (case_of r)).answer) s.same y
+
+    pub seeking_on : is_ok r ≡ false → Seeking card before (i + 1) after
     seeking_on n = record {
       held = y.held;
-      same = called_still s.held y n ∙ s.same;
-      rest = λ w. s.rest w ∙ first_later card w.held i _ _ (omega arith) (tried_none card w.held i (λ e. n (sym (called_answer w x) ∙ e)));
+      same = called_still s.held y (tells_none r n) ∙ s.same;
+      rest = λ w. s.rest w ∙ first_later card w.held i _ _ (omega arith) (tried_none card w.held i (λ e. tells_none r n (sym (called_answer w x) ∙ e)));
     }
 
-    pub seeking_made : a ≡ 0 → StepsLowest card before after true
+    pub seeking_made : is_ok r ≡ true → StepsLowest card before after true
     seeking_made e = record {
       does = λ w. subst (Lowest card before after true)
-          (sym (s.rest w ∙ first_made card w.held i _ (omega arith) (tried_made card w.held i (called_answer w x ∙ e))))
+          (sym (s.rest w ∙ first_made card w.held i _ (omega arith) (tried_made card w.held i (called_answer w x ∙ tells_made r e))))
           (one_can (called_state w x));
     }

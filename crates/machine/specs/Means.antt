@@ -1,5 +1,5 @@
 -- What an answer of the code means as a move of the paper.
-use Rattle.std.specs.Prelude.{◌≡◌, ℕ, ◌+◌, ◌-◌, ◌*◌, ◌<◌, ◌≤◌, Bool, true, false, List, ◌++◌, length, take, drop, nat_le}
+use Rattle.std.specs.Prelude.{◌≡◌, ℕ, ◌+◌, ◌-◌, ◌*◌, ◌<◌, ◌≤◌, Bool, true, false, List, ◌++◌, length, take, drop, nat_le, Result, Ok, Err}
 use Rattle.std.proofs.Math.Path.{refl, ap}
 use Rattle.std.proofs.Common.{◌∙◌, subst, arith, length-append, length-drop}
 use Rattle.std.proofs.Math.Seq.{take-append_seam}
@@ -12,8 +12,11 @@ use Rattle.paper.specs.Calls.{laid}
 use Rattle.slots.specs.Put.{piece}
 use Rattle.writing.specs.Written.{Written, written_fits, written_behind, stands_none, room_for}
 use Rattle.slots.specs.TermAt.{some_bytes, stands}
-use Rattle.machine.specs.declared.act.Act.{Act}
-use Rattle.machine.specs.declared.act.Act.TheVariants.{Stuck, Full, Long, Waits, Goes}
+use Rattle.machine.specs.Answer.{kind_number}
+use Rattle.machine.specs.declared.answer.Kind.{Kind}
+use Rattle.machine.specs.declared.answer.NoStep.{NoStep}
+use Rattle.machine.specs.declared.answer.NoStep.TheVariants.{WaitsFor, IsStuck, TooMany, TooLong}
+use Rattle.machine.specs.declared.act.Goes.{Goes}
 use Rattle.machine.specs.declared.act.Also.{Also}
 use Rattle.machine.specs.declared.act.Also.TheVariants.{Nothing, NewCell, SetCell, NewLock, Taken, Released, NewThread}
 
@@ -96,6 +99,12 @@ wrote {mid} x {before} {after} {r} w e =
 
 -- ---- what an answer means
 
+abbrev pub Act : Type 0
+Act = Result Goes NoStep
+
+abbrev pub going : Kind → ℕ → ℕ → Also → Act
+going k n r a = Ok (record { made = record { kind = k; number = n }; size = r; also = a })
+
 -- what else changes, with the room that the card has for it
 pub data Changes (card : Card) (S : State) (s : List ℕ) : Also → Change → Type 0 where
   is_nothing : Changes card S s Nothing nothing
@@ -109,9 +118,9 @@ pub data Changes (card : Card) (S : State) (s : List ℕ) : Also → Change → 
 
 -- the part whose bytes are s makes the move, in a buffer of `room` bytes that is left with `out`
 pub data Means (card : Card) (S : State) (s : List ℕ) (room : ℕ) (out : List ℕ) : Act → Move → Type 0 where
-  is_stuck : Means card S s room out Stuck stuck
-  is_full : Means card S s room out Full full
-  is_long : Means card S s room out Long long
-  is_waits : {l : ℕ} → Means card S s room out (Waits l) (waits l)
-  is_goes : {k n r : ℕ} {x : Term} {a : Also} {c : Change} → Became (term_bytes x) room out r → Changes card S s a c
-      → Means card S s room out (Goes k n r a) (goes k n x c)
+  is_stuck : Means card S s room out (Err IsStuck) stuck
+  is_full : Means card S s room out (Err TooMany) full
+  is_long : Means card S s room out (Err TooLong) long
+  is_waits : {l : ℕ} → Means card S s room out (Err (WaitsFor l)) (waits l)
+  is_goes : {k : Kind} {n r : ℕ} {x : Term} {a : Also} {c : Change} → Became (term_bytes x) room out r → Changes card S s a c
+      → Means card S s room out (going k n r a) (goes (kind_number k) n x c)

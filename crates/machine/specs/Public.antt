@@ -1,12 +1,14 @@
 -- The public step's contract: the paper's call on the card of document 01, and one law for each way out of it.
-use Rattle.std.specs.Prelude.{◌≡◌, ℕ, ◌<◌, ◌≤◌, true, false, List, length}
+use Rattle.std.specs.Prelude.{◌≡◌, ℕ, ◌<◌, ◌≤◌, true, false, List, length, Err}
 use Rattle.std.proofs.Common.{arith}
 use Rattle.paper.specs.States.{sixteen}
 use Rattle.laws.specs.StateBytes.{state_holds}
 use Rattle.laws.specs.Cards.{sixteen_fits, sixteen_total}
 use Rattle.states.specs.IsState.{is_state, is_state_lem, not_state_lem}
-use Rattle.machine.specs.declared.step.Step.{Step}
-use Rattle.machine.specs.declared.step.Step.TheVariants.{BufferShort, NoState}
+use Rattle.states.specs.Unfit.{Why}
+use Rattle.states.specs.declared.Unfit.{Unfit}
+use Rattle.states.specs.declared.Unfit.TheVariants.{BufferShort, NoState}
+use Rattle.machine.specs.Answer.{Step, unfit_for}
 use Rattle.machine.specs.Answering.{Answers, Held, answers_one}
 use Rattle.machine.specs.Around.{answers_short, answers_foreign}
 
@@ -17,12 +19,9 @@ pub record Steps (s : List ℕ) (i : ℕ) (s' : List ℕ) (r : Step) : Type 0 wh
 pub steps_one : {s : List ℕ} {i : ℕ} {s' s'' : List ℕ} {r r' : Step} → Steps s i s' r → Steps s i s'' r' → (r ≡ r') × (s' ≡ s'')
 steps_one a b = answers_one a.answers b.answers
 
-module _ (s : List ℕ) (i : ℕ) where
-  pub steps_short : length s < 49408 → Steps s i s BufferShort
-  steps_short h = record { answers = answers_short i (omega (arith, sixteen_total)) }
-
-  pub steps_foreign : 49408 ≤ length s → is_state s ≡ false → Steps s i s NoState
-  steps_foreign h e = record { answers = answers_foreign i (omega (arith, sixteen_total)) (not_state_lem s e) }
+pub steps_unfit : (s : List ℕ) (i : ℕ) (u : Unfit) → Why s u → Steps s i s (Err (unfit_for u))
+steps_unfit s i BufferShort h = record { answers = answers_short i (omega (arith, sixteen_total)) }
+steps_unfit s i NoState h = let l = h.0 in record { answers = answers_foreign i (omega (arith, sixteen_total)) (not_state_lem s h.1) }
 
 pub state_held : (s : List ℕ) → is_state s ≡ true → Held sixteen s
 unfolding sixteen

@@ -1,5 +1,5 @@
 -- The step by the part of a thread that is due, its bytes copied aside: each way of the code, as the paper's call.
-use Rattle.std.specs.Prelude.{◌≡◌, ℕ, ◌+◌, ◌-◌, ◌*◌, ◌<◌, ◌≤◌, max, true, false, ◌⊎◌, List, [], ◌++◌, length, get_or, take, drop, slice_index_or, refl}
+use Rattle.std.specs.Prelude.{◌≡◌, ℕ, ◌+◌, ◌-◌, ◌*◌, ◌<◌, ◌≤◌, max, true, false, ◌⊎◌, List, [], ◌++◌, length, get_or, take, drop, slice_index_or, refl, Ok, Err}
 use Rattle.std.proofs.Math.Path.{sym, ap, subst}
 use Rattle.std.proofs.Common.{◌∙◌, inl, inr, append-nil, zero-add}
 use native.Mathlib.Omega.{arith}
@@ -23,12 +23,13 @@ use Rattle.plans.specs.Stepping.{step_made, step_waits, step_stuck, step_full, s
 use Rattle.slots.specs.Walk.{skip_of}
 use Rattle.slots.specs.WayTerm.{found}
 use Rattle.slots.specs.Moves.{found_move, replaced}
-use Rattle.machine.specs.declared.act.Act.{Act}
-use Rattle.machine.specs.declared.act.Act.TheVariants.{Stuck, Full, Long, Waits, Goes}
+use Rattle.machine.specs.declared.act.Goes.{Goes}
 use Rattle.machine.specs.declared.act.Also.{Also}
+use Rattle.machine.specs.declared.answer.NoStep.{NoStep}
 use Rattle.machine.specs.declared.step.Due.{Due}
-use Rattle.machine.specs.declared.step.Step.TheVariants.{Made, WaitsFor, IsStuck, TooMany, TooLong}
-use Rattle.machine.specs.Means.{Short, Cut, Part, part_bytes, part_cut, Became, Changes, Means, is_stuck, is_full, is_long, is_waits, is_goes}
+use Rattle.machine.specs.declared.answer.NoStep.TheVariants.{TooLong}
+use Rattle.machine.specs.Answer.{kind_number}
+use Rattle.machine.specs.Means.{Short, Cut, Part, part_bytes, part_cut, Became, Changes, Act, Means, is_stuck, is_full, is_long, is_waits, is_goes}
 use Rattle.machine.specs.Cutting.{Redex}
 use Rattle.machine.specs.Acting.{Acts}
 use Rattle.machine.specs.Altering.{Altering, Alters}
@@ -37,28 +38,16 @@ use Rattle.machine.specs.Answering.{Answers, Running}
 use Rattle.machine.specs.Behind.{thread_left, thread_restored}
 
 -- a move that goes on, taken apart
-record Went (card : Card) (S : State) (s : List ℕ) (room : ℕ) (out : List ℕ) (k n r : ℕ) (a : Also) (m : Move) : Type 0 where
+record Went (card : Card) (S : State) (s : List ℕ) (room : ℕ) (out : List ℕ) (g : Goes) (m : Move) : Type 0 where
   term : Term
   change : Change
-  move_is : m ≡ goes k n term change
-  became : Became (term_bytes term) room out r
-  changes : Changes card S s a change
+  move_is : m ≡ goes (kind_number g.made.kind) g.made.number term change
+  became : Became (term_bytes term) room out g.size
+  changes : Changes card S s g.also change
 
 module _ {card : Card} {S : State} {s : List ℕ} {room : ℕ} {out : List ℕ} where
-  went : {k n r : ℕ} {a : Also} {m : Move} → Means card S s room out (Goes k n r a) m → Went card S s room out k n r a m
+  went : {g : Goes} {m : Move} → Means card S s room out (Ok g) m → Went card S s room out g m
   went (is_goes {x = x} {c = c} b h) = record { term = x; change = c; move_is = refl; became = b; changes = h }
-
-  means_stuck : {m : Move} → Means card S s room out Stuck m → m ≡ stuck
-  means_stuck is_stuck = refl
-
-  means_full : {m : Move} → Means card S s room out Full m → m ≡ full
-  means_full is_full = refl
-
-  means_long : {m : Move} → Means card S s room out Long m → m ≡ long
-  means_long is_long = refl
-
-  means_waits : {l : ℕ} {m : Move} → Means card S s room out (Waits l) m → m ≡ waits l
-  means_waits is_waits = refl
 
 module _ {card : Card} {state : List ℕ} {i : ℕ} {d : Due} {s buffer stack : List ℕ} (w : Running card state i d s buffer stack) where
   S : State
@@ -130,7 +119,7 @@ module _ {card : Card} {state : List ℕ} {i : ℕ} {d : Due} {s buffer stack : 
   run_redex = record {
     term = redex;
     there = alone;
-    second = λ n. w.parted.second n ∙ ap (λ z. skip_of z 1) (part_bytes there ∙ sym bytes);
+    begins = λ e x. w.parted.begins e x ∙ ap (λ z. skip_of z 1) (part_bytes there ∙ sym bytes);
   }
 
   -- what the thread is with x for the part
@@ -179,47 +168,42 @@ module _ {card : Card} {state : List ℕ} {i : ℕ} {d : Due} {s buffer stack : 
     unfolding redex
     whole e = found_move card S thread unfinished ∙ ap (in_place (found thread).frame) e
 
-    pub run_stuck : r ≡ Stuck → Answers card state i state IsStuck
+    -- it makes no step
+    pub run_refused : {e : NoStep} → r ≡ Err e → Answers card state i state (Err e)
     unfolding told in_place thread
-    run_stuck e = record { says = step_stuck card fits state S holds i here (whole (means_stuck (meant_as e))) }
-
-    pub run_full : r ≡ Full → Answers card state i state TooMany
-    unfolding told in_place thread
-    run_full e = record { says = step_full card fits state S holds i here (whole (means_full (meant_as e))) }
-
-    pub run_long : r ≡ Long → Answers card state i state TooLong
-    unfolding told in_place thread
-    run_long e = record { says = step_long card fits state S holds i here (whole (means_long (meant_as e))) }
-
-    pub run_waits : {l : ℕ} → r ≡ Waits l → Answers card state i state (WaitsFor l)
-    unfolding told in_place thread
-    run_waits {l} e = record { says = step_waits card fits state S holds i here l (whole (means_waits (meant_as e))) }
+    run_refused {e} x = go (meant_as x) refl
+      where
+        go : {e : NoStep} {m : Move} → Means card S s (length buffer) out (Err e) m → move card S redex ≡ m → Answers card state i state (Err e)
+        go is_stuck q = record { says = step_stuck card fits state S holds i here (whole q) }
+        go is_full q = record { says = step_full card fits state S holds i here (whole q) }
+        go is_long q = record { says = step_long card fits state S holds i here (whole q) }
+        go (is_waits {l = l}) q = record { says = step_waits card fits state S holds i here l (whole q) }
 
     -- ---- it goes on
 
-    module _ {k n m : ℕ} {also : Also} (e : r ≡ Goes k n m also) where
-      on : Went card S s (length buffer) out k n m also (move card S redex)
+    module _ {g : Goes} (e : r ≡ Ok g) where
+      on : Went card S s (length buffer) out g (move card S redex)
       on = went (meant_as e)
 
       after : Term
       after = (found thread).frame on.term
 
-      next : move card S thread ≡ goes k n after on.change
+      next : move card S thread ≡ goes (kind_number g.made.kind) g.made.number after on.change
       unfolding in_place after
       next = whole on.move_is
 
-      became : Became (term_bytes on.term) (length buffer) out m
+      became : Became (term_bytes on.term) (length buffer) out g.size
       became = on.became
 
       grows : length (term_bytes after) + length s ≡ d.used + length (term_bytes on.term)
       unfolding after
       grows = framed_length on.term
 
-      pub run_outgrows : card.thread_bytes - (d.used - length s) < m → Answers card state i state TooLong
+      pub run_outgrows : card.thread_bytes - (d.used - length s) < g.size → Answers card state i state (Err TooLong)
       unfolding told thread
-      run_outgrows l = record { says = step_outgrows card fits state S holds i here next (go (side (length buffer) m)) }
+      run_outgrows l = record { says = step_outgrows card fits state S holds i here next (go (side (length buffer) g.size)) }
         where
-          go : (length buffer < m) ⊎ (m ≤ length buffer) → card.thread_bytes < length (term_bytes after)
+          go : (length buffer < g.size) ⊎ (g.size ≤ length buffer) → card.thread_bytes < length (term_bytes after)
           go (inl h) = let b = became.short h in let o = w.room in omega (arith, grows, part_fits)
           go (inr h) = let b = (became.fits h).1 in omega (arith, grows, part_fits, thread_fits)
 
@@ -227,23 +211,23 @@ module _ {card : Card} {state : List ℕ} {i : ℕ} {d : Due} {s buffer stack : 
       unfolding thread
       named = go (rw next at (thread_names card S holds.state i here))
         where
-          go : Names S (goes k n after on.change) → Named S on.change
+          go : Names S (goes (kind_number g.made.kind) g.made.number after on.change) → Named S on.change
           go (names h) = h
 
-      pub run_altering : Altering card state s also
+      pub run_altering : Altering card state s g.also
       run_altering = record
           { held = S; holds = holds; change = on.change; means = on.changes; named = named; thread = omega (arith, part_fits, thread_fits) }
 
-      module _ (l : m ≤ card.thread_bytes - (d.used - length s)) where
-        room : m ≤ length buffer
+      module _ (l : g.size ≤ card.thread_bytes - (d.used - length s)) where
+        room : g.size ≤ length buffer
         room = let o = w.room in omega arith
 
-        pub run_room : length out ≡ length buffer → m ≤ length out
-        run_room e = subst (λ k. m ≤ k) (sym e) room
+        pub run_room : length out ≡ length buffer → g.size ≤ length out
+        run_room e = subst (λ k. g.size ≤ k) (sym e) room
 
-        pub run_made : {between left : List ℕ} → length between ≡ length state → Alters card s also state between
-            → Exchanges (256 + card.thread_bytes * i) d.used (38 + 2 * i) d.from d.to (take m out) between left
-            → Answers card state i left (Made k n)
+        pub run_made : {between left : List ℕ} → length between ≡ length state → Alters card s g.also state between
+            → Exchanges (256 + card.thread_bytes * i) d.used (38 + 2 * i) d.from d.to (take g.size out) between left
+            → Answers card state i left (Ok g.made)
         unfolding told thread after
         run_made {between} {left} kept alters x =
             let b = became.fits room in
@@ -251,8 +235,8 @@ module _ {card : Card} {state : List ℕ} {i : ℕ} {d : Due} {s buffer stack : 
             let changes = alters.does S holds on.change on.changes named (omega (arith, part_fits, thread_fits)) in
             let was : take d.used (drop base between) ≡ term_bytes thread =
             ap (λ z. take z (drop base between)) used ∙ thread_left card fits state S holds i here on.change between kept named changes in
-            let new : spliced (take d.used (drop base between)) d.from d.to (take m out) ≡ term_bytes after =
-            ap (λ z. spliced z d.from d.to (take m out)) was ∙ ap (spliced (term_bytes thread) d.from d.to) b.0
+            let new : spliced (take d.used (drop base between)) d.from d.to (take g.size out) ≡ term_bytes after =
+            ap (λ z. spliced z d.from d.to (take g.size out)) was ∙ ap (spliced (term_bytes thread) d.from d.to) b.0
             ∙ sym (framed on.term) in
             let c = cut in
             let f = slot.room in

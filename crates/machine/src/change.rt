@@ -2,27 +2,25 @@
 // step, never from the buffer itself.
 ghost use Rattle.std.specs.Prelude.{◌<◌};
 ghost use Rattle.paper.specs.Base.{at};
-ghost use Rattle.paper.specs.States.{Fits};
-ghost use Rattle.machine.specs.Acting.{card_of};
+ghost use Rattle.plans.specs.Card.{card_of};
 ghost use Rattle.machine.specs.Altering.{CellPut, ThreadAdded, CellAdded, Altering, Alters};
 
-use crate::act::{Also, Card};
+use crate::act::Also;
 use places::{byte_at, put_byte};
+use plans::card::Card;
 use plans::store::store;
 
 fn set_cell(state: &mut [u8], card: Card, j: usize, bytes: &[u8])
-    requires fits { Fits (card_of card) }
     requires j_bound { j < 256 }
     ensures { CellPut (card_of card) j bytes.now state.old state.new }
 {
-    let from = 256 + card.threads * card.thread_bytes;
+    let from = card.cells_start();
     let size = card.cell_bytes;
     store(state, from + size * j, size, 70 + 2 * j, bytes);
 }
 
 // The next thread or cell: its slot, then the count.
 fn new_thread(state: &mut [u8], card: Card, i: usize, bytes: &[u8])
-    requires fits { Fits (card_of card) }
     requires i_bound { i < 255 }
     ensures { ThreadAdded (card_of card) i bytes.now state.old state.new }
 {
@@ -32,7 +30,6 @@ fn new_thread(state: &mut [u8], card: Card, i: usize, bytes: &[u8])
 }
 
 fn new_cell(state: &mut [u8], card: Card, bytes: &[u8])
-    requires fits { Fits (card_of card) }
     requires state_bound { at state.old 4 < 255 }
     ensures { CellAdded (card_of card) (at state.old 4) bytes.now state.old state.new }
 {
@@ -43,7 +40,6 @@ fn new_cell(state: &mut [u8], card: Card, bytes: &[u8])
 
 // What changes beside the thread, by the bytes s of the part that makes the step.
 pub(crate) fn change(state: &mut [u8], card: Card, s: &[u8], also: Also)
-    requires fits { Fits (card_of card) }
     requires altering { Altering (card_of card) state.old s.now also }
     ensures { Alters (card_of card) s.now also state.old state.new }
 {

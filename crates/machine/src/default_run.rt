@@ -1,81 +1,46 @@
 // "The default run (answers 1 and 18 first) steps the lowest-numbered thread that can, until none can or a given limit is reached, and reports
 // the steps (0 if refused)."
 ghost use Rattle.paper.specs.States.{sixteen};
-ghost use Rattle.machine.specs.Acting.{card_of};
-ghost use Rattle.machine.specs.Answering.{Held, Scratch};
+ghost use Rattle.plans.specs.Card.{card_of};
+ghost use Rattle.machine.specs.Answering.{Held};
 ghost use Rattle.machine.specs.Lowest.{StepsLowest};
-ghost use Rattle.machine.specs.DefaultCalls.{DefaultRuns};
+ghost use Rattle.machine.specs.DefaultCalls.{DefaultSteps, DefaultRuns};
 
-use crate::act::{Card, SIXTEEN};
-use crate::numbers::answer_of;
+use crate::scratch::Scratch;
 use crate::step::step_held;
 use places::byte_at;
-
-#[derive(Clone, Copy)]
-pub enum DefaultRun {
-    // The steps.
-    Ran(u64),
-    BufferShort,
-    NoState,
-}
+use plans::card::{Card, SIXTEEN};
+use states::{Unfit, check_state};
 
 // The step of the lowest-numbered thread that can: whether there is one. A thread is asked by the call itself, which changes nothing where it
 // makes no step.
-fn step_lowest(
-    state: &mut [u8],
-    card: Card,
-    old: &mut [u8],
-    out: &mut [u8],
-    stack: &mut [u8],
-) -> bool
-    requires held { Held (card_of card) state.old }
-    requires scratch { Scratch old.old out.old stack.old }
+fn step_lowest(state: &mut [u8], card: Card, scratch: &mut Scratch) -> bool
+    requires { Held (card_of card) state.old }
     ensures { StepsLowest (card_of card) state.old state.new result }
 {
-    let count = byte_at(state, 3) as u64;
-    let mut i = 0;
-    while i < count {
-        if answer_of(step_held(state, i, card, old, out, stack)) == 0 {
+    for i in 0..byte_at(state, 3) {
+        if step_held(state, u64::from(i), card, scratch).is_ok() {
             return true;
         }
-        i += 1;
     }
     false
 }
 
-fn default_held(
-    state: &mut [u8],
-    limit: u64,
-    card: Card,
-    old: &mut [u8],
-    out: &mut [u8],
-    stack: &mut [u8],
-) -> DefaultRun
-    requires held { Held (card_of card) state.old }
-    requires scratch { Scratch old.old out.old stack.old }
-    ensures { DefaultRuns (card_of card) state.old limit state.new result }
+fn default_held(state: &mut [u8], limit: u64, card: Card, scratch: &mut Scratch) -> u64
+    requires { Held (card_of card) state.old }
+    ensures { DefaultSteps (card_of card) state.old limit state.new result }
 {
-    let mut steps = 0;
-    while steps < limit {
-        if !step_lowest(state, card, old, out, stack) {
-            return DefaultRun::Ran(steps);
+    for steps in 0..limit {
+        if !step_lowest(state, card, scratch) {
+            return steps;
         }
-        steps += 1;
     }
-    DefaultRun::Ran(steps)
+    limit
 }
 
-pub fn default_run(state: &mut [u8], limit: u64) -> DefaultRun
+pub fn default_run(state: &mut [u8], limit: u64) -> Result<u64, Unfit>
     ensures { DefaultRuns sixteen state.old limit state.new result }
 {
-    if state.len() < 49408 {
-        return DefaultRun::BufferShort;
-    }
-    if !states::is_state(state) {
-        return DefaultRun::NoState;
-    }
-    let mut old = [0u8; 2048];
-    let mut out = [0u8; 2048];
-    let mut stack = [0u8; 4096];
-    default_held(state, limit, SIXTEEN, &mut old, &mut out, &mut stack)
+    check_state(state)?;
+    Ok(default_held(state, limit, SIXTEEN, &mut Scratch::new()))
 }

@@ -1,61 +1,66 @@
 // From the code of the part that makes the step to the kind of step.
-ghost use Rattle.std.specs.Prelude.{◌≡◌, length};
-ghost use Rattle.paper.specs.States.{Fits};
+ghost use Rattle.std.specs.Prelude.{◌≡◌, ◌<◌, length};
 ghost use Rattle.slots.specs.Walk.{skip_of};
 ghost use Rattle.machine.specs.Means.{Short};
 ghost use Rattle.machine.specs.Cutting.{Second, Redex};
-ghost use Rattle.machine.specs.Acting.{card_of, Acts};
+ghost use Rattle.machine.specs.Acting.{Acts};
+ghost use Rattle.plans.specs.Card.{card_of};
 
-use crate::act::{Act, Card};
+use crate::act::Goes;
+use crate::answer::NoStep;
+use crate::codes::{
+    ADD, APPLY, FORK, IF, LET, NEW_CELL, NEW_LOCK, OPEN, READ, SECTION, THEN, WRITE,
+};
 use crate::kinds::{
     add, apply, bind, branch, fork, make_cell, make_lock, read, release, take, went_on, write,
 };
 use places::byte_at;
+use plans::card::Card;
 use slots::walk::skip;
 
-// Where the part behind the first begins: e, if that is known.
-fn second_from(s: &[u8], e: usize) -> usize
-    requires { Second s.now e }
+// Where the part behind the first begins, if that is not known already.
+fn second_from(s: &[u8], second: Option<usize>) -> usize
+    requires begins { Second s.now second }
+    requires stands { 1 < skip_of s.now 1 }
     ensures { result ≡ skip_of s.now 1 }
 {
-    if e == 0 { skip(s, 1) } else { e }
+    match second {
+        Some(e) => e,
+        None => skip(s, 1).unwrap(),
+    }
 }
 
-// What the part whose bytes are s does, on the state; what it becomes goes to `out`. Its own second part begins at e, or where that is 0 it is
-// still to be found.
+// What the part whose bytes are s does, on the state; what it becomes goes to `out`. Its own second part begins at `second`, or is still to be
+// found.
 pub(crate) fn act(
     s: &[u8],
-    e: usize,
+    second: Option<usize>,
     state: &[u8],
     card: Card,
     out: &mut [u8],
     stack: &mut [u8],
-) -> Act
-    requires redex { Redex s.now e }
+) -> Result<Goes, NoStep>
+    requires redex { Redex s.now second }
     requires short { Short s.now stack.old }
-    requires fits { Fits (card_of card) }
     ensures { Acts (card_of card) s.now state.now (length out.old) out.new result }
 {
     let c = s[0];
     match c {
-        5 => apply(s, second_from(s, e), out, stack),
-        6 => make_cell(s, byte_at(state, 4), card.cells, card.cell_bytes, out),
-        7 => {
-            let from = 256 + card.threads * card.thread_bytes;
-            read(s, state, from, card.cell_bytes, out)
+        APPLY => apply(s, second_from(s, second), out, stack),
+        NEW_CELL => make_cell(s, byte_at(state, 4), card.cells, card.cell_bytes, out),
+        READ => read(s, state, card.cells_start(), card.cell_bytes, out),
+        WRITE => write(s, second_from(s, second), card.cell_bytes, out),
+        FORK => fork(s, byte_at(state, 3), card.threads, out),
+        NEW_LOCK => make_lock(s, byte_at(state, 5), card.locks, out, stack),
+        SECTION => take(s, second_from(s, second), state, out),
+        LET => bind(s, second_from(s, second), out, stack),
+        THEN => went_on(s, second_from(s, second), out),
+        ADD => add(s, second_from(s, second), out),
+        IF => {
+            let g = second_from(s, second);
+            branch(s, g, skip(s, g).unwrap(), out)
         }
-        8 => write(s, second_from(s, e), card.cell_bytes, out),
-        9 => fork(s, byte_at(state, 3), card.threads, out),
-        10 => make_lock(s, byte_at(state, 5), card.locks, out, stack),
-        11 => take(s, second_from(s, e), state, out),
-        12 => bind(s, second_from(s, e), out, stack),
-        13 => went_on(s, second_from(s, e), out),
-        14 => add(s, second_from(s, e), out),
-        15 => {
-            let g = second_from(s, e);
-            branch(s, g, skip(s, g), out)
-        }
-        18 => release(s, out),
-        _ => Act::Stuck,
+        OPEN => release(s, out),
+        _ => Err(NoStep::IsStuck),
     }
 }

@@ -1,21 +1,16 @@
 // The public step, on the card of document 01.
 ghost use Rattle.machine.specs.Public.{Steps};
 
-use crate::act::SIXTEEN;
-use crate::step::{Step, step_held};
+use crate::answer::{Made, NoStep};
+use crate::scratch::Scratch;
+use crate::step::step_held;
+use plans::card::SIXTEEN;
+use states::check_state;
 
 // One step of a thread: answers 1 and 18 first, then the machine's. Where no step is made the state is unchanged.
-pub fn step(state: &mut [u8], thread: u64) -> Step
+pub fn step(state: &mut [u8], thread: u64) -> Result<Made, NoStep>
     ensures { Steps state.old thread state.new result }
 {
-    if state.len() < 49408 {
-        return Step::BufferShort;
-    }
-    if !states::is_state(state) {
-        return Step::NoState;
-    }
-    let mut old = [0u8; 2048];
-    let mut out = [0u8; 2048];
-    let mut stack = [0u8; 4096];
-    step_held(state, thread, SIXTEEN, &mut old, &mut out, &mut stack)
+    check_state(state)?;
+    step_held(state, thread, SIXTEEN, &mut Scratch::new())
 }

@@ -6,195 +6,210 @@ ghost use Rattle.machine.specs.Means.{Cut, Cut2, Cut3, Short, Sized};
 ghost use Rattle.machine.specs.Kinds.{Applied, LetBound, LockMade, CellMade, CellRead, CellWritten, Forked};
 ghost use Rattle.machine.specs.Kinds.{LockTaken, LockReleased, WentOn, Added, Branched};
 
-use crate::act::{Act, Also};
+use crate::act::{Also, Goes, goes_on};
+use crate::answer::{Kind, NoStep};
+use crate::codes::{CELL, FUNCTION, LOCK, NUMBER, OPEN, UNIT};
 use places::{byte_at, two_at};
 use slots::put::put;
 use writing::{fill, fill_both};
 
-pub(crate) fn apply(s: &[u8], g: usize, out: &mut [u8], stack: &mut [u8]) -> Act
+pub(crate) fn apply(s: &[u8], g: usize, out: &mut [u8], stack: &mut [u8]) -> Result<Goes, NoStep>
     requires cut2 { Cut2 s.now 1 g (length s.now) }
     requires short { Short s.now stack.old }
     ensures { Applied s.now g (length out.old) out.new result }
 {
-    if s[1] != 4 {
-        return Act::Stuck;
+    if s[1] != FUNCTION {
+        return Err(NoStep::IsStuck);
     }
     let n = put(&s[2..g], &s[g..], out, 0, stack);
-    Act::Goes(1, 0, n, Also::Nothing)
+    goes_on(Kind::Apply, 0, n, Also::Nothing)
 }
 
-pub(crate) fn bind(s: &[u8], g: usize, out: &mut [u8], stack: &mut [u8]) -> Act
+pub(crate) fn bind(s: &[u8], g: usize, out: &mut [u8], stack: &mut [u8]) -> Result<Goes, NoStep>
     requires cut2 { Cut2 s.now 1 g (length s.now) }
     requires short { Short s.now stack.old }
     ensures { LetBound s.now g (length out.old) out.new result }
 {
     let n = put(&s[g..], &s[1..g], out, 0, stack);
-    Act::Goes(9, 0, n, Also::Nothing)
+    goes_on(Kind::Let, 0, n, Also::Nothing)
 }
 
 // Then: the second part is left.
-pub(crate) fn went_on(s: &[u8], g: usize, out: &mut [u8]) -> Act
+pub(crate) fn went_on(s: &[u8], g: usize, out: &mut [u8]) -> Result<Goes, NoStep>
     requires { Cut s.now g (length s.now) }
     ensures { WentOn s.now g (length out.old) out.new result }
 {
     let n = fill(&s[g..], out, 0);
-    Act::Goes(10, 0, n, Also::Nothing)
+    goes_on(Kind::Then, 0, n, Also::Nothing)
 }
 
-pub(crate) fn make_lock(s: &[u8], count: u8, room: usize, out: &mut [u8], stack: &mut [u8]) -> Act
+pub(crate) fn make_lock(
+    s: &[u8],
+    count: u8,
+    room: usize,
+    out: &mut [u8],
+    stack: &mut [u8],
+) -> Result<Goes, NoStep>
     requires cut { Cut s.now 1 (length s.now) }
     requires short { Short s.now stack.old }
     ensures { LockMade s.now count room (length out.old) out.new result }
 {
     let l = count as usize;
     if room <= l {
-        return Act::Full;
+        return Err(NoStep::TooMany);
     }
-    let v = [16u8, count];
+    let v = [LOCK, count];
     let n = put(&s[1..], &v, out, 0, stack);
-    Act::Goes(6, l, n, Also::NewLock)
+    goes_on(Kind::LockMade, l, n, Also::NewLock)
 }
 
-pub(crate) fn make_cell(s: &[u8], count: u8, room: usize, size: usize, out: &mut [u8]) -> Act
+pub(crate) fn make_cell(
+    s: &[u8],
+    count: u8,
+    room: usize,
+    size: usize,
+    out: &mut [u8],
+) -> Result<Goes, NoStep>
     requires { Cut s.now 1 (length s.now) }
     ensures { CellMade s.now count room size (length out.old) out.new result }
 {
     let j = count as usize;
     if room <= j {
-        return Act::Full;
+        return Err(NoStep::TooMany);
     }
     if size < s.len() - 1 {
-        return Act::Long;
+        return Err(NoStep::TooLong);
     }
-    let v = [17u8, count];
+    let v = [CELL, count];
     let n = fill(&v, out, 0);
-    Act::Goes(2, j, n, Also::NewCell)
+    goes_on(Kind::CellMade, j, n, Also::NewCell)
 }
 
 // The cells' slots of `size` bytes stand in the state from `from` on.
-pub(crate) fn read(s: &[u8], state: &[u8], from: usize, size: usize, out: &mut [u8]) -> Act
+pub(crate) fn read(
+    s: &[u8],
+    state: &[u8],
+    from: usize,
+    size: usize,
+    out: &mut [u8],
+) -> Result<Goes, NoStep>
     requires cut { Cut s.now 1 (length s.now) }
     requires sized { Sized from size }
     ensures { CellRead s.now state.now from size (length out.old) out.new result }
 {
-    if s[1] != 17 {
-        return Act::Stuck;
+    if s[1] != CELL {
+        return Err(NoStep::IsStuck);
     }
     let j = byte_at(s, 2) as usize;
     let n = two_at(state, 70 + 2 * j);
     if size < n {
-        return Act::Stuck;
+        return Err(NoStep::IsStuck);
     }
     let a = from + size * j;
     let b = a + n;
     if state.len() < b {
-        return Act::Stuck;
+        return Err(NoStep::IsStuck);
     }
     let m = fill(&state[a..b], out, 0);
-    Act::Goes(3, j, m, Also::Nothing)
+    goes_on(Kind::Read, j, m, Also::Nothing)
 }
 
-pub(crate) fn write(s: &[u8], g: usize, size: usize, out: &mut [u8]) -> Act
+pub(crate) fn write(s: &[u8], g: usize, size: usize, out: &mut [u8]) -> Result<Goes, NoStep>
     requires { Cut2 s.now 1 g (length s.now) }
     ensures { CellWritten s.now g size (length out.old) out.new result }
 {
-    if s[1] != 17 {
-        return Act::Stuck;
+    if s[1] != CELL {
+        return Err(NoStep::IsStuck);
     }
     let j = byte_at(s, 2) as usize;
     if size < s.len() - g {
-        return Act::Long;
+        return Err(NoStep::TooLong);
     }
-    let v = [1u8];
+    let v = [UNIT];
     let n = fill(&v, out, 0);
-    Act::Goes(4, j, n, Also::SetCell(j, g))
+    goes_on(Kind::Write, j, n, Also::SetCell(j, g))
 }
 
-pub(crate) fn fork(s: &[u8], count: u8, room: usize, out: &mut [u8]) -> Act
+pub(crate) fn fork(s: &[u8], count: u8, room: usize, out: &mut [u8]) -> Result<Goes, NoStep>
     ensures { Forked s.now count room (length out.old) out.new result }
 {
     let i = count as usize;
     if room <= i {
-        return Act::Full;
+        return Err(NoStep::TooMany);
     }
-    let v = [1u8];
+    let v = [UNIT];
     let n = fill(&v, out, 0);
-    Act::Goes(5, i, n, Also::NewThread(i))
+    goes_on(Kind::Fork, i, n, Also::NewThread(i))
 }
 
 // The open section takes the place of the code and the lock.
-pub(crate) fn take(s: &[u8], g: usize, state: &[u8], out: &mut [u8]) -> Act
+pub(crate) fn take(s: &[u8], g: usize, state: &[u8], out: &mut [u8]) -> Result<Goes, NoStep>
     requires { Cut2 s.now 1 g (length s.now) }
     ensures { LockTaken s.now g state.now (length out.old) out.new result }
 {
-    if s[1] != 16 {
-        return Act::Stuck;
+    if s[1] != LOCK {
+        return Err(NoStep::IsStuck);
     }
     let b = byte_at(s, 2);
     let l = b as usize;
     if byte_at(state, 6 + l) != 0 {
-        return Act::Waits(l);
+        return Err(NoStep::WaitsFor(l));
     }
-    let v = [18u8, b];
+    let v = [OPEN, b];
     let n = fill_both(&v, &s[g..], out, 0);
-    Act::Goes(7, l, n, Also::Taken(l))
+    goes_on(Kind::Take, l, n, Also::Taken(l))
 }
 
 // The lock stands behind the code, and the part behind the lock.
-pub(crate) fn release(s: &[u8], out: &mut [u8]) -> Act
+pub(crate) fn release(s: &[u8], out: &mut [u8]) -> Result<Goes, NoStep>
     requires { Cut s.now 2 (length s.now) }
     ensures { LockReleased s.now (length out.old) out.new result }
 {
     let l = byte_at(s, 1) as usize;
     let n = fill(&s[2..], out, 0);
-    Act::Goes(8, l, n, Also::Released(l))
+    goes_on(Kind::Release, l, n, Also::Released(l))
 }
 
 fn word_at(s: &[u8], k: usize) -> u32
     requires { k ≤ length s.now }
     ensures { result ≡ word32 s.now k }
 {
-    let a = byte_at(s, k) as u32;
-    let b = byte_at(s, k + 1) as u32;
-    let c = byte_at(s, k + 2) as u32;
-    let d = byte_at(s, k + 3) as u32;
-    ((a * 256 + b) * 256 + c) * 256 + d
+    u32::from_be_bytes([
+        byte_at(s, k),
+        byte_at(s, k + 1),
+        byte_at(s, k + 2),
+        byte_at(s, k + 3),
+    ])
 }
 
-pub(crate) fn add(s: &[u8], g: usize, out: &mut [u8]) -> Act
+pub(crate) fn add(s: &[u8], g: usize, out: &mut [u8]) -> Result<Goes, NoStep>
     requires { Cut2 s.now 1 g (length s.now) }
     ensures { Added s.now g (length out.old) out.new result }
 {
-    if s[1] != 2 {
-        return Act::Stuck;
+    if s[1] != NUMBER {
+        return Err(NoStep::IsStuck);
     }
-    if s[g] != 2 {
-        return Act::Stuck;
+    if s[g] != NUMBER {
+        return Err(NoStep::IsStuck);
     }
-    let n = std::num::wrapping_add_u32(word_at(s, 2), word_at(s, g + 1));
-    let v = [
-        2u8,
-        (n / 16777216 % 256) as u8,
-        (n / 65536 % 256) as u8,
-        (n / 256 % 256) as u8,
-        (n % 256) as u8,
-    ];
+    let [a, b, c, d] = word_at(s, 2).wrapping_add(word_at(s, g + 1)).to_be_bytes();
+    let v = [NUMBER, a, b, c, d];
     let m = fill(&v, out, 0);
-    Act::Goes(11, 0, m, Also::Nothing)
+    goes_on(Kind::Add, 0, m, Also::Nothing)
 }
 
 // If: the third part for 0, else the second.
-pub(crate) fn branch(s: &[u8], g: usize, h: usize, out: &mut [u8]) -> Act
+pub(crate) fn branch(s: &[u8], g: usize, h: usize, out: &mut [u8]) -> Result<Goes, NoStep>
     requires { Cut3 s.now 1 g h (length s.now) }
     ensures { Branched s.now g h (length out.old) out.new result }
 {
-    if s[1] != 2 {
-        return Act::Stuck;
+    if s[1] != NUMBER {
+        return Err(NoStep::IsStuck);
     }
     if word_at(s, 2) == 0 {
         let n = fill(&s[h..], out, 0);
-        return Act::Goes(12, 0, n, Also::Nothing);
+        return goes_on(Kind::If, 0, n, Also::Nothing);
     }
     let n = fill(&s[g..h], out, 0);
-    Act::Goes(12, 0, n, Also::Nothing)
+    goes_on(Kind::If, 0, n, Also::Nothing)
 }

@@ -3,10 +3,13 @@
 // of the runs, are the paper's calls.
 #![tactic(auto)]
 
+pub mod answer; // answer.rt: what a step answers
 mod act; // act.rt: what a step can be
+mod codes; // codes.rt: the codes by name
 mod kinds; // kinds.rt: the kinds of step, on the bytes of the part that makes it
 mod dispatch; // dispatch.rt: from the code to the kind
 mod change; // change.rt: the stores of a change
+mod scratch; // scratch.rt: what a step works in
 pub mod step; // step.rt: the step
 pub mod entry; // entry.rt: the public step
 pub mod numbers; // numbers.rt: document 01's number of each answer

@@ -1,21 +1,21 @@
 // Document 01's number of each answer of a step.
 ghost use Rattle.machine.specs.Numbers.{Numbers};
 
-use crate::step::Step;
+use crate::answer::{Made, NoStep};
 
 #[tactic(auto, using(crate::specs::Numbers::numbers_case), unfolding(paper::specs::Cases::told))]
-pub fn answer_of(answer: Step) -> u8
+pub fn answer_of(answer: Result<Made, NoStep>) -> u8
     ensures { Numbers answer result }
 {
     match answer {
-        Step::Made(_, _) => 0,
-        Step::BufferShort => 1,
-        Step::NoState => 18,
-        Step::NoSuchThread => 19,
-        Step::IsFinished => 20,
-        Step::WaitsFor(_) => 21,
-        Step::IsStuck => 22,
-        Step::TooMany => 23,
-        Step::TooLong => 24,
+        Ok(_) => 0,
+        Err(NoStep::BufferShort) => 1,
+        Err(NoStep::NoState) => 18,
+        Err(NoStep::NoSuchThread) => 19,
+        Err(NoStep::IsFinished) => 20,
+        Err(NoStep::WaitsFor(_)) => 21,
+        Err(NoStep::IsStuck) => 22,
+        Err(NoStep::TooMany) => 23,
+        Err(NoStep::TooLong) => 24,
     }
 }

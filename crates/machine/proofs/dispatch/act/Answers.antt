@@ -1,154 +1,106 @@
 -- One law of `Acting` a code; where the parts stand is said by `Cutting`.
 use Rattle.machine.specs.Means.{part_cut}
-use Rattle.machine.specs.Cutting.{of_cell, of_read, of_newlock, of_app, of_write, of_sync, of_bind, of_add, one_cut, two_cut, seq_cut, cond_cut, section_cut}
+use Rattle.machine.specs.Cutting.{of_cell, of_read, of_newlock, of_app, of_write, of_sync, of_bind, of_seq, of_add, one_cut, two_cut, two_stands, cond_cut, cond_stands, cond_third, section_cut}
+use Rattle.machine.specs.Skipping.{skip_some, skip_is}
 use Rattle.machine.specs.Acting.{acts_app, acts_cell, acts_read, acts_write, acts_fork, acts_newlock, acts_sync, acts_bind, acts_seq, acts_add, acts_cond, acts_release, acts_else}
-use Rattle.machine.specs.Fitting.{cells_low, threads_fit, cells_fit}
 use borrow.Author.Rules.{rules}
 use Rattle.machine.proofs.dispatch.act.Goals as goal
 
 pub bounds-s-0 : goal.bounds-s-0
 bounds-s-0 c = (part_cut c.requires.redex.there).some
 
-pub second_from-requires : goal.second_from-requires
-second_from-requires c = c.requires.redex.second
-
-pub apply-requires : goal.apply-requires
-apply-requires c = record { cut2 = two_cut c.requires.redex of_app c.in-5.is c.second_from.ensures; short = c.requires.short }
+pub apply-requires-clause-cut2 : goal.apply-requires-clause-cut2
+apply-requires-clause-cut2 c = two_cut c.requires.redex of_app c.in-5.is c.second_from.ensures
 
 pub make_cell-requires : goal.make_cell-requires
 make_cell-requires c = one_cut c.requires.redex of_cell c.in-6.is
 
-pub overflow_mul-from : goal.overflow_mul-from
-overflow_mul-from c = threads_fit c.requires.fits
-
-pub overflow_add-from : goal.overflow_add-from
-overflow_add-from c = cells_fit c.requires.fits
-
-pub read-requires : goal.read-requires
-read-requires c = record { cut = one_cut c.requires.redex of_read c.in-7.is; sized = record { low = cells_low c.requires.fits; small = c.requires.fits.cell_bytes } }
-
-pub second_from-requires-in-8 : goal.second_from-requires-in-8
-second_from-requires-in-8 c = c.requires.redex.second
+pub read-requires-clause-cut : goal.read-requires-clause-cut
+read-requires-clause-cut c = one_cut c.requires.redex of_read c.in-7.is
 
 pub write-requires : goal.write-requires
 write-requires c = two_cut c.requires.redex of_write c.in-8.is c.second_from-in-8.ensures
 
-pub make_lock-requires : goal.make_lock-requires
-make_lock-requires c = record { cut = one_cut c.requires.redex of_newlock c.in-10.is; short = c.requires.short }
-
-pub second_from-requires-in-11 : goal.second_from-requires-in-11
-second_from-requires-in-11 c = c.requires.redex.second
+pub make_lock-requires-clause-cut : goal.make_lock-requires-clause-cut
+make_lock-requires-clause-cut c = one_cut c.requires.redex of_newlock c.in-10.is
 
 pub take-requires : goal.take-requires
 take-requires c = two_cut c.requires.redex of_sync c.in-11.is c.second_from-in-11.ensures
 
-pub second_from-requires-in-12 : goal.second_from-requires-in-12
-second_from-requires-in-12 c = c.requires.redex.second
-
-pub bind-requires : goal.bind-requires
-bind-requires c = record { cut2 = two_cut c.requires.redex of_bind c.in-12.is c.second_from-in-12.ensures; short = c.requires.short }
-
-pub second_from-requires-in-13 : goal.second_from-requires-in-13
-second_from-requires-in-13 c = c.requires.redex.second
+pub bind-requires-clause-cut2 : goal.bind-requires-clause-cut2
+bind-requires-clause-cut2 c = two_cut c.requires.redex of_bind c.in-12.is c.second_from-in-12.ensures
 
 pub went_on-requires : goal.went_on-requires
-went_on-requires c = seq_cut c.requires.redex c.in-13.is c.second_from-in-13.ensures
-
-pub second_from-requires-in-14 : goal.second_from-requires-in-14
-second_from-requires-in-14 c = c.requires.redex.second
+went_on-requires c = let k = two_cut c.requires.redex of_seq c.in-13.is c.second_from-in-13.ensures in record { some = k.second; inside = k.inside }
 
 pub add-requires : goal.add-requires
 add-requires c = two_cut c.requires.redex of_add c.in-14.is c.second_from-in-14.ensures
 
-pub second_from-g-requires : goal.second_from-g-requires
-second_from-g-requires c = c.requires.redex.second
-
 pub branch-s-requires : goal.branch-s-requires
-branch-s-requires c = cond_cut c.requires.redex c.in-15.is c.second_from-g.ensures c.skip.ensures.says
+branch-s-requires c = cond_cut c.requires.redex c.in-15.is c.second_from-g.ensures (skip_is c.skip.ensures c.unwrap.ensures)
 
 pub release-requires : goal.release-requires
 release-requires c = section_cut c.requires.redex c.in-18.is
 
-pub shape_of-out-in-5 : goal.shape_of-out-in-5
-shape_of-out-in-5 c = c.apply.auto.out
-
-pub shape_of-stack-in-5 : goal.shape_of-stack-in-5
-shape_of-stack-in-5 c = c.apply.auto.stack
-
 pub returns-in-5 : goal.returns-in-5
-returns-in-5 c = acts_app c.requires.fits c.second_from.ensures c.in-5.is c.apply.ensures
-
-pub shape_of-out-in-6 : goal.shape_of-out-in-6
-shape_of-out-in-6 c = c.make_cell.auto.out
+returns-in-5 c = acts_app c.args.card.fits c.second_from.ensures c.in-5.is c.apply.ensures
 
 pub returns-in-6 : goal.returns-in-6
-returns-in-6 c = acts_cell c.requires.fits c.in-6.is c.byte_at.ensures c.make_cell.ensures
-
-pub shape_of-out-in-7 : goal.shape_of-out-in-7
-shape_of-out-in-7 c = c.read.auto.out
+returns-in-6 c = acts_cell c.args.card.fits c.in-6.is c.byte_at.ensures c.make_cell.ensures
 
 pub returns-in-7 : goal.returns-in-7
-returns-in-7 c = acts_read c.requires.fits c.in-7.is c.read.ensures
-
-pub shape_of-out-in-8 : goal.shape_of-out-in-8
-shape_of-out-in-8 c = c.write.auto.out
+returns-in-7 c = acts_read c.args.card.fits c.in-7.is (rw c.cells_start.ensures at c.read.ensures)
 
 pub returns-in-8 : goal.returns-in-8
-returns-in-8 c = acts_write c.requires.fits c.second_from-in-8.ensures c.in-8.is c.write.ensures
-
-pub shape_of-out-in-9 : goal.shape_of-out-in-9
-shape_of-out-in-9 c = c.fork.auto.out
+returns-in-8 c = acts_write c.args.card.fits c.second_from-in-8.ensures c.in-8.is c.write.ensures
 
 pub returns-in-9 : goal.returns-in-9
-returns-in-9 c = acts_fork c.requires.fits c.in-9.is c.byte_at-in-9.ensures c.fork.ensures
-
-pub shape_of-out-in-10 : goal.shape_of-out-in-10
-shape_of-out-in-10 c = c.make_lock.auto.out
-
-pub shape_of-stack-in-10 : goal.shape_of-stack-in-10
-shape_of-stack-in-10 c = c.make_lock.auto.stack
+returns-in-9 c = acts_fork c.args.card.fits c.in-9.is c.byte_at-in-9.ensures c.fork.ensures
 
 pub returns-in-10 : goal.returns-in-10
-returns-in-10 c = acts_newlock c.requires.fits c.in-10.is c.byte_at-in-10.ensures c.make_lock.ensures
-
-pub shape_of-out-in-11 : goal.shape_of-out-in-11
-shape_of-out-in-11 c = c.take.auto.out
+returns-in-10 c = acts_newlock c.args.card.fits c.in-10.is c.byte_at-in-10.ensures c.make_lock.ensures
 
 pub returns-in-11 : goal.returns-in-11
-returns-in-11 c = acts_sync c.requires.fits c.second_from-in-11.ensures c.in-11.is c.take.ensures
-
-pub shape_of-out-in-12 : goal.shape_of-out-in-12
-shape_of-out-in-12 c = c.bind.auto.out
-
-pub shape_of-stack-in-12 : goal.shape_of-stack-in-12
-shape_of-stack-in-12 c = c.bind.auto.stack
+returns-in-11 c = acts_sync c.args.card.fits c.second_from-in-11.ensures c.in-11.is c.take.ensures
 
 pub returns-in-12 : goal.returns-in-12
-returns-in-12 c = acts_bind c.requires.fits c.second_from-in-12.ensures c.in-12.is c.bind.ensures
-
-pub shape_of-out-in-13 : goal.shape_of-out-in-13
-shape_of-out-in-13 c = c.went_on.auto.out
+returns-in-12 c = acts_bind c.args.card.fits c.second_from-in-12.ensures c.in-12.is c.bind.ensures
 
 pub returns-in-13 : goal.returns-in-13
-returns-in-13 c = acts_seq c.requires.fits c.second_from-in-13.ensures c.in-13.is c.went_on.ensures
-
-pub shape_of-out-in-14 : goal.shape_of-out-in-14
-shape_of-out-in-14 c = c.add.auto.out
+returns-in-13 c = acts_seq c.args.card.fits c.second_from-in-13.ensures c.in-13.is c.went_on.ensures
 
 pub returns-in-14 : goal.returns-in-14
-returns-in-14 c = acts_add c.requires.fits c.second_from-in-14.ensures c.in-14.is c.add.ensures
-
-pub shape_of-out-in-15 : goal.shape_of-out-in-15
-shape_of-out-in-15 c = c.branch-s.auto.out
+returns-in-14 c = acts_add c.args.card.fits c.second_from-in-14.ensures c.in-14.is c.add.ensures
 
 pub returns-in-15 : goal.returns-in-15
-returns-in-15 c = acts_cond c.requires.fits c.second_from-g.ensures c.in-15.is c.skip.ensures.says c.branch-s.ensures
-
-pub shape_of-out-in-18 : goal.shape_of-out-in-18
-shape_of-out-in-18 c = c.release.auto.out
+returns-in-15 c = acts_cond c.args.card.fits c.second_from-g.ensures c.in-15.is (skip_is c.skip.ensures c.unwrap.ensures) c.branch-s.ensures
 
 pub returns-in-18 : goal.returns-in-18
-returns-in-18 c = acts_release c.requires.fits c.in-18.is c.release.ensures
+returns-in-18 c = acts_release c.args.card.fits c.in-18.is c.release.ensures
 
 pub returns-in_default : goal.returns-in_default
 returns-in_default c = acts_else (record { no_app = search rules; no_cell = search rules; no_read = search rules; no_write = search rules; no_fork = search rules; no_lock = search rules; no_sync = search rules; no_bind = search rules; no_seq = search rules; no_add = search rules; no_cond = search rules; no_section = search rules })
+
+pub second_from-requires-clause-stands : goal.second_from-requires-clause-stands
+second_from-requires-clause-stands c = two_stands c.requires.redex of_app c.in-5.is
+
+pub second_from-requires-in-8-clause-stands : goal.second_from-requires-in-8-clause-stands
+second_from-requires-in-8-clause-stands c = two_stands c.requires.redex of_write c.in-8.is
+
+pub second_from-requires-in-11-clause-stands : goal.second_from-requires-in-11-clause-stands
+second_from-requires-in-11-clause-stands c = two_stands c.requires.redex of_sync c.in-11.is
+
+pub second_from-requires-in-12-clause-stands : goal.second_from-requires-in-12-clause-stands
+second_from-requires-in-12-clause-stands c = two_stands c.requires.redex of_bind c.in-12.is
+
+pub second_from-requires-in-13-clause-stands : goal.second_from-requires-in-13-clause-stands
+second_from-requires-in-13-clause-stands c = two_stands c.requires.redex of_seq c.in-13.is
+
+pub second_from-requires-in-14-clause-stands : goal.second_from-requires-in-14-clause-stands
+second_from-requires-in-14-clause-stands c = two_stands c.requires.redex of_add c.in-14.is
+
+pub second_from-g-requires-clause-stands : goal.second_from-g-requires-clause-stands
+second_from-g-requires-clause-stands c = cond_stands c.requires.redex c.in-15.is
+
+pub unwrap-requires : goal.unwrap-requires
+unwrap-requires c = skip_some c.skip.ensures (cond_third c.requires.redex c.in-15.is c.second_from-g.ensures)
