@@ -1,6 +1,8 @@
 -- The byte of each code (document 01, "The program image"): "Types: 20 Unit; 21 Int; 22 Lock ..; 23 Ref ..; 24 Function ..", and the table of
 -- expressions, 01 to 0F.
-use Rattle.std.specs.Prelude.{ℕ, ◌≡◌, ◌<◌, ◌⊎◌, Result, MatchResult}
+use Rattle.std.specs.Prelude.{ℕ, eqb, ◌≡◌, ◌<◌, ◌⊎◌, Result, MatchResult}
+use mathlib.Core.Path.{refl, ap, sym, ◌∙◌}
+use Rattle.paper.specs.Base.{choose}
 use Rattle.codes.specs.declared.NoSuchCode.{NoSuchCode}
 use Rattle.codes.specs.declared.TypeCode.{TypeCode}
 use Rattle.codes.specs.declared.TypeCode.TheVariants as types
@@ -37,3 +39,43 @@ TypeDecodes b r = MatchResult r (λ c. type_byte c ≡ b) (λ e. (b < 0x20) ⊎ 
 
 abbrev pub ExpDecodes : ℕ → Result ExpCode NoSuchCode → Type 0
 ExpDecodes b r = MatchResult r (λ c. exp_byte c ≡ b) (λ e. (b < 0x01) ⊎ (0x0F < b))
+
+-- ---- no two codes of expressions have one byte
+
+abbrev code_of : ℕ → ExpCode
+code_of b =
+    choose (eqb b 0x01) (λ _. exps.Unit) λ _.
+    choose (eqb b 0x02) (λ _. exps.Number) λ _.
+    choose (eqb b 0x03) (λ _. exps.Variable) λ _.
+    choose (eqb b 0x04) (λ _. exps.Function) λ _.
+    choose (eqb b 0x05) (λ _. exps.Apply) λ _.
+    choose (eqb b 0x06) (λ _. exps.NewCell) λ _.
+    choose (eqb b 0x07) (λ _. exps.Read) λ _.
+    choose (eqb b 0x08) (λ _. exps.Write) λ _.
+    choose (eqb b 0x09) (λ _. exps.Fork) λ _.
+    choose (eqb b 0x0A) (λ _. exps.NewLock) λ _.
+    choose (eqb b 0x0B) (λ _. exps.Section) λ _.
+    choose (eqb b 0x0C) (λ _. exps.Let) λ _.
+    choose (eqb b 0x0D) (λ _. exps.Then) λ _.
+    choose (eqb b 0x0E) (λ _. exps.Add) λ _.
+    exps.If
+
+kept : (c : ExpCode) → code_of (exp_byte c) ≡ c
+kept exps.Unit = refl
+kept exps.Number = refl
+kept exps.Variable = refl
+kept exps.Function = refl
+kept exps.Apply = refl
+kept exps.NewCell = refl
+kept exps.Read = refl
+kept exps.Write = refl
+kept exps.Fork = refl
+kept exps.NewLock = refl
+kept exps.Section = refl
+kept exps.Let = refl
+kept exps.Then = refl
+kept exps.Add = refl
+kept exps.If = refl
+
+pub exp_byte_one : (c d : ExpCode) → exp_byte c ≡ exp_byte d → c ≡ d
+exp_byte_one c d e = sym (kept c) ∙ ap code_of e ∙ kept d
