@@ -1,5 +1,5 @@
 -- The next item, by the tests that the code makes.
-use Rattle.std.specs.Prelude.{◌≡◌, refl, true, false, List, [], ◌∷◌, ◌⊎◌, ℕ, ◌+◌, ◌≤◌, ◌<◌, length, Some, None, Ok, Err}
+use Rattle.std.specs.Prelude.{◌≡◌, refl, true, false, List, ◌⊎◌, ℕ, ◌+◌, ◌≤◌, ◌<◌, length, Some, None, Ok, Err}
 use Rattle.std.proofs.Common.{ap, ◌∙◌, sym, inl, inr, arith}
 use borrow.Author.Tests.{le-leb, lt-leb}
 use Rattle.paper.specs.Base.{at}
@@ -7,7 +7,6 @@ use Rattle.paper.specs.Reading.{Read, got, wrong, code_due, exp_code}
 use Rattle.paper.specs.Lister as paper
 use Rattle.paper.specs.Lister.{exp_fields, past, list}
 use Rattle.paper.specs.Calls.{list_call}
-use Rattle.answers.specs.declared.Refusal.{Refusal}
 use Rattle.answers.specs.declared.Refusal.TheVariants.{NoSuchCode}
 use Rattle.codes.specs.Codes.{exp_byte}
 use Rattle.codes.specs.declared.ExpCode.{ExpCode}

@@ -1,4 +1,4 @@
--- What the lister's answers mean (document 01, "The lister walks an image with a reader .."): each case of the code's enum in the words
+-- What the lister's answers mean (document 01, "The lister walks an image with a reader .."): each case of the code's answer in the words
 -- of the definitions, and the one record that the contracts cite.
 use Rattle.std.specs.Prelude.{◌≡◌, refl, List, ℕ, Option, Some, None, Result, Ok, Err}
 use Rattle.std.proofs.Common.{sym, ap, ◌∙◌, arith}
@@ -50,7 +50,7 @@ built c p j = Ok (Some (record { code = c; place = p; next = j }))
 
 told_one : (a b : Answer) → told a ≡ told b → a ≡ b
 unfolding built
-told_one (Ok (Some x)) (Ok (Some y)) h = 
+told_one (Ok (Some x)) (Ok (Some y)) h =
     let c = exp_byte_one x.code y.code cc in
     let p : x.place ≡ y.place = cc in
     let n : x.next ≡ y.next = cc in

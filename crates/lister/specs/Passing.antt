@@ -1,6 +1,6 @@
 -- Passing over fields, as the code does it. `past` counts its turns down from the image's length; each turn passes a byte, so the
 -- turns are never short, and what is said here holds for any number of turns that is enough.
-use Rattle.std.specs.Prelude.{Bool, ◌≡◌, List, [], ◌∷◌, ◌++◌}
+use Rattle.std.specs.Prelude.{Bool, ◌≡◌, List, [], ◌∷◌, ◌++◌, Result, Ok, Err, MatchResult}
 use Rattle.std.proofs.Math.Bool.{true, false}
 use Rattle.std.proofs.Math.Path.{refl}
 use Rattle.std.proofs.Common.{ap, ◌∙◌, append_assoc, append-nil, arith, le-leb}
@@ -11,9 +11,8 @@ use Rattle.paper.specs.Base.{choose, at}
 use Rattle.paper.specs.Answers.{cut_image, no_such_code}
 use Rattle.paper.specs.Reading.{Read, got, wrong, return, wrong_at, field, byte, code_due, type_code}
 use Rattle.paper.specs.Lister.{Field, some_bytes, a_type, type_fields, past}
-use Rattle.std.specs.Prelude.{Result, Ok, Err, MatchResult}
 use Rattle.answers.specs.declared.Refusal.{Refusal}
-use Rattle.answers.specs.declared.Refusal.TheVariants.{NoSuchCode, CutImage}
+use Rattle.answers.specs.declared.Refusal.TheVariants.{CutImage}
 use Rattle.answers.specs.Numbers.{number, place}
 
 -- the place after some fields, or why there is none

@@ -1,7 +1,7 @@
 -- A stated type, passed over without recursion. What stays due behind a type is always the same: of each Function whose argument is being read
 -- "lock set, result type". So a count of those Functions says all that is due, however deep the type is.
 use Rattle.std.specs.Prelude.{true, false, ◌≡◌, refl, List, [], ◌∷◌, ◌++◌, ◌⊎◌, length, Result, Ok, Err}
-use Prim.Native.Nat.{ℕ, zero, suc, ◌+◌, ◌-◌, ◌≤◌, ◌<◌}
+use Prim.Native.Nat.{ℕ, zero, suc, ◌+◌, ◌≤◌, ◌<◌}
 use Rattle.std.proofs.Math.Numerals.{add-one}
 use Rattle.std.proofs.Common.{arith, inl, inr}
 use borrow.Author.Tests.{le-leb, lt-leb}
@@ -14,7 +14,7 @@ use Rattle.answers.specs.declared.Refusal.TheVariants.{NoSuchCode, CutImage}
 use Rattle.codes.specs.declared.TypeCode.{TypeCode}
 use Rattle.codes.specs.declared.TypeCode.TheVariants.{Unit as UnitType, Int, Lock, Ref, Function}
 use Rattle.codes.specs.Codes.{type_byte}
-use Rattle.lister.specs.Passing.{Ends, Passes, Takes, ends_bytes, ends_code, cut_bytes, cut_type, no_type, some_bytes_lem}
+use Rattle.lister.specs.Passing.{Ends, Passes, Takes, ends_bytes, ends_code, cut_bytes, cut_type, no_type}
 
 -- what of a type is left behind its code and name byte
 abbrev pub left : TypeCode → List Field

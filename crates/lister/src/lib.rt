@@ -3,6 +3,7 @@
 #![tactic(auto)]
 
 ghost use Rattle.std.specs.Prelude.{◌≡◌, [], ◌∷◌, ◌<◌};
+ghost use Rattle.std.specs.Option.{option_transpose};
 ghost use Rattle.codes.specs.Codes.{exp_byte};
 ghost use Rattle.paper.specs.Lister.{a_type, exp_fields};
 ghost use Rattle.lister.specs.Means.{Lists, stands, reader_at, Advances};
@@ -102,7 +103,11 @@ pub fn next(image: &[u8], at: usize) -> Result<Option<Item>, Refusal>
         return Err(Refusal::NoSuchCode(at));
     };
     let next = past_fields(image, code, at + 1)?;
-    Ok(Some(Item { code, place: at, next }))
+    Ok(Some(Item {
+        code,
+        place: at,
+        next,
+    }))
 }
 
 // "a reader that knows the image and the place it has reached"
@@ -143,6 +148,17 @@ impl<'a> Reader<'a> {
             self.at = found.next;
         }
         item
+    }
+}
+
+// The items in order; a refusal comes again at each call, since the reader stays at it.
+impl<'a> Iterator for Reader<'a> {
+    type Item = Result<Item, Refusal>;
+
+    ghost next_gives = { λ before r after. Advances before (option_transpose r) after };
+
+    fn next(&mut self) -> Option<Result<Item, Refusal>> {
+        self.advance().transpose()
     }
 }
 

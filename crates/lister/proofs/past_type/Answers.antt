@@ -1,5 +1,5 @@
 -- The turns of `lister::past_type`: at a Function, and at a type of which nothing is left. Each turn passes a byte, so the bytes left are the measure.
-use Rattle.std.proofs.Common.{arith, rules, ◌≡◌, refl, ◌⊎◌, inl, inr, []}
+use Rattle.std.proofs.Common.{rules, ◌≡◌, ◌⊎◌, inl, inr, []}
 use Rattle.std.proofs.lemmas.Result.{err_from_is_err_and}
 use Rattle.codes.specs.declared.TypeCode.{TypeCode}
 use Rattle.codes.specs.declared.TypeCode.TheVariants as types
