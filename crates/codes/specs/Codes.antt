@@ -137,3 +137,7 @@ exp_decodes_one b (Ok c) (Ok d) h k = sym (exp_kept c (Ok c)) ∙ ap (λ n. exp_
 exp_decodes_one b (Ok c) (Err e) h k = out (exp_in c) h k
 exp_decodes_one b (Err e) (Ok d) h k = out (exp_in d) k h
 exp_decodes_one b (Err e) (Err f) h k = refl
+
+-- no two codes of expressions have one byte
+pub exp_byte_one : (c d : ExpCode) → exp_byte c ≡ exp_byte d → c ≡ d
+exp_byte_one c d e = let q : ◌≡◌ {A = Result ExpCode NoSuchCode} (Ok c) (Ok d) = exp_decodes_one (exp_byte d) (Ok c) (Ok d) e refl in cc

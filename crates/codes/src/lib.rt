@@ -1,7 +1,8 @@
 // The codes of an image's bytes (document 01, "The program image"): of expressions and of types.
 #![tactic(auto)]
 
-ghost use Rattle.codes.specs.Codes.{TypeDecodes, ExpDecodes};
+ghost use Rattle.std.specs.Prelude.{◌≡◌};
+ghost use Rattle.codes.specs.Codes.{TypeDecodes, ExpDecodes, exp_byte};
 
 // A byte that is no code where one is due.
 #[derive(Clone, Copy, Debug, PartialEq, Eq)]
@@ -75,6 +76,30 @@ impl TryFrom<u8> for ExpCode {
             0x0E => Ok(ExpCode::Add),
             0x0F => Ok(ExpCode::If),
             _ => Err(NoSuchCode),
+        }
+    }
+}
+
+impl From<ExpCode> for u8 {
+    ghost from_gives = { λ code b. b ≡ exp_byte code };
+
+    fn from(code: ExpCode) -> u8 {
+        match code {
+            ExpCode::Unit => 0x01,
+            ExpCode::Number => 0x02,
+            ExpCode::Variable => 0x03,
+            ExpCode::Function => 0x04,
+            ExpCode::Apply => 0x05,
+            ExpCode::NewCell => 0x06,
+            ExpCode::Read => 0x07,
+            ExpCode::Write => 0x08,
+            ExpCode::Fork => 0x09,
+            ExpCode::NewLock => 0x0A,
+            ExpCode::Section => 0x0B,
+            ExpCode::Let => 0x0C,
+            ExpCode::Then => 0x0D,
+            ExpCode::Add => 0x0E,
+            ExpCode::If => 0x0F,
         }
     }
 }

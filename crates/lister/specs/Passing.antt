@@ -1,6 +1,6 @@
 -- Passing over fields, as the code does it. `past` counts its turns down from the image's length; each turn passes a byte, so the
 -- turns are never short, and what is said here holds for any number of turns that is enough.
-use Rattle.std.specs.Prelude.{Bool, ◌≡◌, List, [], ◌∷◌, ◌++◌}
+use Rattle.std.specs.Prelude.{Bool, ◌≡◌, List, [], ◌∷◌, ◌++◌, Result, Ok, Err, MatchResult}
 use Rattle.std.proofs.Math.Bool.{true, false}
 use Rattle.std.proofs.Math.Path.{refl}
 use Rattle.std.proofs.Common.{ap, ◌∙◌, append_assoc, append-nil, arith, le-leb}
@@ -11,8 +11,13 @@ use Rattle.paper.specs.Base.{choose, at}
 use Rattle.paper.specs.Answers.{cut_image, no_such_code}
 use Rattle.paper.specs.Reading.{Read, got, wrong, return, wrong_at, field, byte, code_due, type_code}
 use Rattle.paper.specs.Lister.{Field, some_bytes, a_type, type_fields, past}
-use Rattle.lister.specs.declared.Past.{Past}
-use Rattle.lister.specs.declared.Past.TheVariants.{To, Refused}
+use Rattle.answers.specs.declared.Refusal.{Refusal}
+use Rattle.answers.specs.declared.Refusal.TheVariants.{CutImage}
+use Rattle.answers.specs.Numbers.{number, place}
+
+-- the place after some fields, or why there is none
+abbrev pub Past : Type 0
+Past = Result ℕ Refusal
 
 -- from place i the fields fs end as x says
 pub record Ends (s : List ℕ) (fs : List Field) (i : ℕ) (x : Read (Unit {0})) : Type 0 where
@@ -20,17 +25,21 @@ pub record Ends (s : List ℕ) (fs : List Field) (i : ℕ) (x : Read (Unit {0}))
 
 -- an answer in the words of the definitions
 abbrev pub meant : Past → Read (Unit {0})
-meant (To j) = got tt j
-meant (Refused n p) = wrong n p
+meant (Ok j) = got tt j
+meant (Err e) = wrong (number e) (place e)
 
 -- how an answer comes to x, with the fields fs still due
 abbrev pub Leaves : List ℕ → List Field → Read (Unit {0}) → Past → Type 0
-Leaves s fs x (To j) = Ends s fs j x
-Leaves s fs x (Refused n p) = x ≡ wrong n p
+Leaves s fs x (Ok j) = Ends s fs j x
+Leaves s fs x (Err e) = x ≡ wrong (number e) (place e)
 
 -- the answer r to: pass over the fields gs from place i
 pub record Passes (s : List ℕ) (gs : List Field) (i : ℕ) (r : Past) : Type 0 where
   pub goes : (fs : List Field) (x : Read (Unit {0})) → Leaves s fs x r → Ends s (gs ++ fs) i x
+
+-- the answer r to: pass over n bytes from place i
+abbrev pub Takes : List ℕ → ℕ → ℕ → Past → Type 0
+Takes s n i r = MatchResult r (λ j. (j ≡ i + n) × (j ≤ length s)) (λ e. (e ≡ CutImage (length s)) × (length s < i + n))
 
 -- ---- one turn of `past`
 
@@ -122,25 +131,34 @@ module _ {s : List ℕ} where
 
   -- ---- answers, one after the other
 
-  pub no_fields : (i : ℕ) → Passes s [] i (To i)
+  pub no_fields : (i : ℕ) → Passes s [] i (Ok i)
   no_fields i = record { goes = λ fs x e. e }
 
-  pub some_bytes_lem : (n i : ℕ) → 0 < n → i + n ≤ length s → Passes s (some_bytes n ∷ []) i (To (i + n))
-  some_bytes_lem n i pos h = record { goes = λ fs x e. ends_bytes n i pos h e }
+  pub some_bytes_lem : (n i : ℕ) (r : Past) → 0 < n → Takes s n i r → Passes s (some_bytes n ∷ []) i r
+  some_bytes_lem n i (Ok j) pos t = record { goes = λ fs x e. ends_bytes n i pos (omega (arith, t.0, t.1)) (rw t.0 at e) }
+  some_bytes_lem n i (Err e) pos t = record { goes = λ fs x l. rw (l, t.0) (cut_bytes fs n i pos t.1) }
 
-  pub bytes_cut : (n i : ℕ) → 0 < n → length s < i + n → Passes s (some_bytes n ∷ []) i (Refused 5 (length s))
-  bytes_cut n i pos h = record { goes = λ fs x e. rw e (cut_bytes fs n i pos h) }
-
-  pub both : {fs gs : List Field} {i j : ℕ} (r : Past) → Passes s fs i (To j) → Passes s gs j r → Passes s (fs ++ gs) i r
+  pub both : {fs gs : List Field} {i j : ℕ} (r : Past) → Passes s fs i (Ok j) → Passes s gs j r → Passes s (fs ++ gs) i r
   both {fs} {gs} r a b = record { goes = λ hs x l. rw append_assoc (a.goes (gs ++ hs) x (b.goes hs x l)) }
 
-  pub first_wrong : {fs : List Field} (gs : List Field) {i n p : ℕ} → Passes s fs i (Refused n p) → Passes s (fs ++ gs) i (Refused n p)
+  pub first_wrong : {fs : List Field} (gs : List Field) {i : ℕ} {e : Refusal} → Passes s fs i (Err e) → Passes s (fs ++ gs) i (Err e)
   first_wrong {fs} gs a = record { goes = λ hs x l. rw append_assoc (a.goes (gs ++ hs) x l) }
+
+  -- a type and some bytes, or some bytes and a type
+  module _ (n i : ℕ) (pos : 0 < n) where
+    pub type_bytes : (j : ℕ) (r : Past) → Passes s (a_type ∷ []) i (Ok j) → Takes s n j r → Passes s (a_type ∷ some_bytes n ∷ []) i r
+    type_bytes j r a t = both r a (some_bytes_lem n j r pos t)
+
+    pub bytes_type : (j : ℕ) (r : Past) → Takes s n i (Ok j) → Passes s (a_type ∷ []) j r → Passes s (some_bytes n ∷ a_type ∷ []) i r
+    bytes_type j r t a = both r (some_bytes_lem n i (Ok j) pos t) a
+
+    pub no_bytes : (e : Refusal) (gs : List Field) → Takes s n i (Err e) → Passes s (some_bytes n ∷ gs) i (Err e)
+    no_bytes e gs t = first_wrong gs (some_bytes_lem n i (Err e) pos t)
 
   -- the answer is what the definition says
   pub passed : {gs : List Field} {i : ℕ} (r : Past) → Passes s gs i r → past 1 (length s) s gs i ≡ meant r
   passed {gs} {i} r a = rw append-nil at ((a.goes [] (meant r) (left r)).says (length s) (omega arith))
     where
       left : (r : Past) → Leaves s [] (meant r) r
-      left (To j) = ends_now j
-      left (Refused n p) = refl
+      left (Ok j) = ends_now j
+      left (Err e) = refl

@@ -1,102 +1,83 @@
 -- A stated type, passed over without recursion. What stays due behind a type is always the same: of each Function whose argument is being read
 -- "lock set, result type". So a count of those Functions says all that is due, however deep the type is.
-use Rattle.std.specs.Prelude.{Bool, true, false, ◌≡◌, refl, List, [], ◌∷◌, ◌++◌, eqb, length}
-use Prim.Native.Nat.{ℕ, zero, suc, ◌+◌, ◌-◌, ◌≤◌, ◌<◌}
+use Rattle.std.specs.Prelude.{true, false, ◌≡◌, refl, List, [], ◌∷◌, ◌++◌, ◌⊎◌, length, Result, Ok, Err}
+use Prim.Native.Nat.{ℕ, zero, suc, ◌+◌, ◌≤◌, ◌<◌}
 use Rattle.std.proofs.Math.Numerals.{add-one}
-use Rattle.std.proofs.Common.{arith}
-use borrow.Author.Tests.{le-leb, lt-leb, ne_eqb, eqb-true, eqb-false}
+use Rattle.std.proofs.Common.{arith, inl, inr}
+use borrow.Author.Tests.{le-leb, lt-leb}
 use Rattle.paper.specs.Base.{at}
 use Rattle.paper.specs.Answers.{cut_image}
-use Rattle.paper.specs.Reading.{Read, wrong}
+use Rattle.paper.specs.Reading.{Read, wrong, type_code}
 use Rattle.paper.specs.Lister.{Field, some_bytes, a_type, type_fields}
-use Rattle.lister.specs.Passing.{Ends, Passes, ends_bytes, ends_code, cut_bytes, cut_type, no_type}
-use Rattle.lister.specs.declared.Past.TheVariants.{To, Refused}
-use Rattle.lister.specs.declared.TypeCode.{TypeCode}
-use Rattle.lister.specs.declared.TypeCode.TheVariants.{Whole, Ref, Function, Wrong}
+use Rattle.answers.specs.declared.Refusal.{Refusal}
+use Rattle.answers.specs.declared.Refusal.TheVariants.{NoSuchCode, CutImage}
+use Rattle.codes.specs.declared.TypeCode.{TypeCode}
+use Rattle.codes.specs.declared.TypeCode.TheVariants.{Unit as UnitType, Int, Lock, Ref, Function}
+use Rattle.codes.specs.Codes.{type_byte}
+use Rattle.lister.specs.Passing.{Ends, Passes, Takes, ends_bytes, ends_code, cut_bytes, cut_type, no_type}
 
--- a type's code and name byte are passed, from i to j, and of the type gs is left
-pub record Opened (s : List ℕ) (i : ℕ) (gs : List Field) (j : ℕ) : Type 0 where
+-- what of a type is left behind its code and name byte
+abbrev pub left : TypeCode → List Field
+left UnitType = []
+left Int = []
+left Lock = []
+left Ref = a_type ∷ []
+left Function = a_type ∷ some_bytes 4 ∷ a_type ∷ []
+
+-- a type's code c and name byte are passed, from i to j
+pub record Opened (s : List ℕ) (i : ℕ) (c : TypeCode) (j : ℕ) : Type 0 where
   pub on : i < j
   pub inside : j ≤ length s
-  pub goes : (fs : List Field) (x : Read (Unit {0})) → Ends s (gs ++ fs) j x → Ends s (a_type ∷ fs) i x
+  pub goes : (fs : List Field) (x : Read (Unit {0})) → Ends s (left c ++ fs) j x → Ends s (a_type ∷ fs) i x
 
 -- what an answer says of the type that is due at i
-unfoldable pub Opens : List ℕ → ℕ → TypeCode → Type 0
-Opens s i (Whole j) = Opened s i [] j
-Opens s i (Ref j) = Opened s i (a_type ∷ []) j
-Opens s i (Function j) = Opened s i (a_type ∷ some_bytes 4 ∷ a_type ∷ []) j
-Opens s i (Wrong n p) = Passes s (a_type ∷ []) i (Refused n p)
+unfoldable pub Opens : List ℕ → ℕ → Result (TypeCode × ℕ) Refusal → Type 0
+Opens s i (Ok (c, j)) = Opened s i c j
+Opens s i (Err e) = Passes s (a_type ∷ []) i (Err e)
 
-between : (c : ℕ) → 0x22 ≤ c → c ≤ 0x24 → (c ≡ 0x22 → ⊥) → (c ≡ 0x24 → ⊥) → c ≡ 0x23
-between c l u f g = omega arith
-
--- a code from 22 to 24 that is not 24 has a name byte
-named : {X : Type 0} (c : ℕ) → 0x22 ≤ c → c ≤ 0x24 → (c ≡ 0x24 → ⊥) → (c ≡ 0x22 → X) → (c ≡ 0x23 → X) → X
-named {X} c l u f lock ref = pick (eqb c 0x22) refl
-  where
-    pick : (b : Bool) → eqb c 0x22 ≡ b → X
-    pick true h = lock (eqb-true c 0x22 h)
-    pick false h = ref (between c l u (eqb-false c 0x22 h) f)
-
-two : (i : ℕ) → i + 1 + 1 ≡ i + 2
-two i = omega arith
+coded : (c : TypeCode) → type_code 1 (type_byte c) ≡ true
+coded UnitType = refl
+coded Int = refl
+coded Lock = refl
+coded Ref = refl
+coded Function = refl
 
 module _ (s : List ℕ) (i : ℕ) where
-  pub type_cut : length s ≤ i → Opens s i (Wrong 5 (length s))
+  pub type_cut : length s ≤ i → Opens s i (Err (CutImage (length s)))
   unfolding Opens
   type_cut h = record { goes = λ fs x e. rw e (cut_type fs i h) }
 
   module _ (h : i < length s) where
-    pub below_codes : at s i < 0x20 → Opens s i (Wrong 4 i)
+    pub no_type_code : (at s i < 0x20) ⊎ (0x24 < at s i) → Opens s i (Err (NoSuchCode i))
     unfolding Opens
-    below_codes c = record { goes = λ fs x e. rw e (no_type fs i h (rw (lt-leb 0x20 (at s i) c))) }
+    no_type_code o = record { goes = λ fs x e. rw e (no_type fs i h (none o)) }
+      where
+        none : (at s i < 0x20) ⊎ (0x24 < at s i) → type_code 1 (at s i) ≡ false
+        none (inl l) = rw (lt-leb 0x20 (at s i) l)
+        none (inr l) = rw (le-leb 0x20 (at s i) (omega arith), lt-leb (at s i) 0x24 l)
 
-    pub above_codes : 0x20 ≤ at s i → 0x24 < at s i → Opens s i (Wrong 4 i)
-    unfolding Opens
-    above_codes l c = record { goes = λ fs x e. rw e (no_type fs i h (rw (le-leb 0x20 (at s i) l, lt-leb (at s i) 0x24 c))) }
+    module _ (c : TypeCode) (k : type_byte c ≡ at s i) where
+      of_code : {fs : List Field} {x : Read (Unit {0})} → Ends s (type_fields 1 (type_byte c) ++ fs) (i + 1) x → Ends s (a_type ∷ fs) i x
+      of_code e = ends_code i h (rw k at (coded c)) (rw k at e)
 
-    pub is_function : at s i ≡ 0x24 → Opens s i (Function (i + 1))
-    unfolding Opens type_fields
-    is_function c = record {
-      on = omega arith;
-      inside = omega arith;
-      goes = λ fs x e. ends_code i h (rw c) (rw c e);
-    }
+      -- a code with no name byte
+      pub is_plain : type_fields 1 (type_byte c) ≡ left c → Opens s i (Ok (c, i + 1))
+      unfolding Opens
+      is_plain f = record { on = omega arith; inside = omega arith; goes = λ fs x e. of_code (rw f e) }
 
-    pub is_ref : 0x22 ≤ at s i → at s i ≤ 0x24 → (at s i ≡ 0x24 → ⊥) → (at s i ≡ 0x22 → ⊥) → 1 < length s - i → Opens s i (Ref (i + 2))
-    unfolding Opens type_fields
-    is_ref l u f k r =
-        let c : at s i ≡ 0x23 = between (at s i) l u k f in
-        record {
-          on = omega arith;
-          inside = omega arith;
-          goes = λ fs x e. ends_code i h (rw c) (rw c (ends_bytes 1 (i + 1) (omega arith) (omega arith) (rw (two i) e)));
+      -- one with a name byte
+      module _ (f : type_fields 1 (type_byte c) ≡ some_bytes 1 ∷ left c) where
+        pub is_named : (j : ℕ) → Takes s 1 (i + 1) (Ok j) → Opens s i (Ok (c, j))
+        unfolding Opens
+        is_named j t = record {
+          on = omega (arith, t.0);
+          inside = t.1;
+          goes = λ fs x e. of_code (rw f (ends_bytes 1 (i + 1) (omega arith) (omega (arith, t.0, t.1)) (rw t.0 at e)));
         }
 
-    pub is_lock : at s i ≡ 0x22 → 1 < length s - i → Opens s i (Whole (i + 2))
-    unfolding Opens type_fields
-    is_lock c r = record {
-      on = omega arith;
-      inside = omega arith;
-      goes = λ fs x e. ends_code i h (rw c) (rw c (ends_bytes 1 (i + 1) (omega arith) (omega arith) (rw (two i) e)));
-    }
-
-    pub name_cut : 0x22 ≤ at s i → at s i ≤ 0x24 → (at s i ≡ 0x24 → ⊥) → length s - i ≤ 1 → Opens s i (Wrong 5 (length s))
-    unfolding Opens type_fields
-    name_cut l u f r = record {
-      goes = λ fs x e. rw e (named (at s i) l u f
-          (λ c. ends_code i h (rw c) (rw c (cut_bytes fs 1 (i + 1) (omega arith) (omega arith))))
-          (λ c. ends_code i h (rw c) (rw c (cut_bytes (a_type ∷ fs) 1 (i + 1) (omega arith) (omega arith)))));
-    }
-
-    pub is_plain : 0x20 ≤ at s i → at s i < 0x22 → Opens s i (Whole (i + 1))
-    unfolding Opens type_fields
-    is_plain l c = record {
-      on = omega arith;
-      inside = omega arith;
-      goes = λ fs x e. ends_code i h (rw (le-leb 0x20 (at s i) l, le-leb (at s i) 0x24 (omega arith)))
-          (rw (ne_eqb (at s i) 0x22 (λ z. omega arith), ne_eqb (at s i) 0x23 (λ z. omega arith), ne_eqb (at s i) 0x24 (λ z. omega arith)) e);
-    }
+        pub name_cut : length s < i + 1 + 1 → Opens s i (Err (CutImage (length s)))
+        unfolding Opens
+        name_cut l = record { goes = λ fs x e. rw e (of_code (rw f (cut_bytes (left c ++ fs) 1 (i + 1) (omega arith) l))) }
 
 -- ---- the loop
 
@@ -110,42 +91,38 @@ pub record Due (s : List ℕ) (start k i : ℕ) : Type 0 where
   pub few : k ≤ i
   pub goes : (fs : List Field) (x : Read (Unit {0})) → Ends s (a_type ∷ dues k fs) i x → Ends s (a_type ∷ fs) start x
 
-pred : (k : ℕ) → suc k - 1 ≡ k
-pred k = omega arith
-
-module _ {s : List ℕ} {start : ℕ} where
+module _ (s : List ℕ) (start : ℕ) where
   pub due_first : Due s start 0 start
   unfolding dues
   due_first = record { few = omega arith; goes = λ fs x e. e }
 
-  module _ {k i : ℕ} (d : Due s start k i) where
-    pub due_function : (j : ℕ) → Opens s i (Function j) → Due s start (k + 1) j
-    unfolding Opens dues
-    due_function j o = record { few = omega arith; goes = λ fs x e. d.goes fs x (o.goes (dues k fs) x (rw add-one at e)) }
+  module _ (i j : ℕ) where
+    pub due_function : (k : ℕ) → Due s start k i → Opened s i Function j → Due s start (k + 1) j
+    unfolding dues
+    due_function k d o = record { few = omega arith; goes = λ fs x e. d.goes fs x (o.goes (dues k fs) x (rw add-one at e)) }
 
-    pub due_ref : (j : ℕ) → Opens s i (Ref j) → Due s start k j
-    unfolding Opens
-    due_ref j o = record { few = omega arith; goes = λ fs x e. d.goes fs x (o.goes (dues k fs) x e) }
+    pub due_ref : (k : ℕ) → Due s start k i → Opened s i Ref j → Due s start k j
+    due_ref k d o = record { few = omega arith; goes = λ fs x e. d.goes fs x (o.goes (dues k fs) x e) }
 
-    pub due_wrong : (n p : ℕ) → Opens s i (Wrong n p) → Passes s (a_type ∷ []) start (Refused n p)
-    unfolding Opens
-    due_wrong n p o = record { goes = λ fs x e. d.goes fs x (o.goes (dues k fs) x e) }
+    -- a type of which nothing is left behind its code and name byte
+    module _ (c : TypeCode) (w : left c ≡ []) (o : Opened s i c j) where
+      pub due_last : Due s start 0 i → Passes s (a_type ∷ []) start (Ok j)
+      unfolding dues
+      due_last d = record { goes = λ fs x e. d.goes fs x (o.goes fs x (rw w e)) }
 
-  pub due_last : {i : ℕ} (j : ℕ) → Due s start 0 i → Opens s i (Whole j) → Passes s (a_type ∷ []) start (To j)
-  unfolding Opens dues
-  due_last j d o = record { goes = λ fs x e. d.goes fs x (o.goes fs x e) }
+      pub due_set : (k m next : ℕ) → k ≡ m + 1 → Due s start k i → next ≡ j + 4 → next ≤ length s → Due s start m next
+      unfolding dues
+      due_set k m next z d e h = record {
+        few = omega arith;
+        goes = λ fs x t. d.goes fs x (o.goes (dues k fs) x (rw (w, z, add-one) (ends_bytes 4 j (omega arith) (omega arith) (rw e at t))));
+      }
 
-  pub due_set : {i : ℕ} (j k : ℕ) → 0 < k → Due s start k i → Opens s i (Whole j) → 4 ≤ length s - j → Due s start (k - 1) (j + 4)
-  unfolding Opens dues
-  due_set j zero pos d o h = absurd (omega arith)
-  due_set j (suc k) pos d o h = record {
-    few = omega arith;
-    goes = λ fs x e. d.goes fs x (o.goes (dues (suc k) fs) x (ends_bytes 4 j (omega arith) (omega arith) (rw (pred k) at e)));
-  }
+      pub due_cut : (k : ℕ) → 0 < k → Due s start k i → length s < j + 4 → Passes s (a_type ∷ []) start (Err (CutImage (length s)))
+      unfolding dues
+      due_cut zero pos d h = absurd (omega arith)
+      due_cut (suc k) pos d h = record {
+        goes = λ fs x l. rw l (d.goes fs (wrong cut_image (length s)) (o.goes (dues (suc k) fs) (wrong cut_image (length s)) (rw w (cut_bytes (a_type ∷ dues k fs) 4 j (omega arith) h))));
+      }
 
-  pub due_cut : {i : ℕ} (j k : ℕ) → 0 < k → Due s start k i → Opens s i (Whole j) → length s - j < 4 → Passes s (a_type ∷ []) start (Refused 5 (length s))
-  unfolding Opens dues
-  due_cut j zero pos d o h = absurd (omega arith)
-  due_cut j (suc k) pos d o h = record {
-    goes = λ fs x e. rw e (d.goes fs (wrong cut_image (length s)) (o.goes (dues (suc k) fs) (wrong cut_image (length s)) (cut_bytes (a_type ∷ dues k fs) 4 j (omega arith) (omega arith))));
-  }
+pub due_wrong : (s : List ℕ) (start k i : ℕ) (e : Refusal) → Due s start k i → Passes s (a_type ∷ []) i (Err e) → Passes s (a_type ∷ []) start (Err e)
+due_wrong s start k i e d o = record { goes = λ fs x l. d.goes fs x (o.goes (dues k fs) x l) }

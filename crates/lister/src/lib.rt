@@ -3,173 +3,111 @@
 #![tactic(auto)]
 
 ghost use Rattle.std.specs.Prelude.{◌≡◌, [], ◌∷◌, ◌<◌};
-ghost use Rattle.paper.specs.Lister.{a_type, some_bytes, exp_fields};
+ghost use Rattle.std.specs.Option.{option_transpose};
+ghost use Rattle.codes.specs.Codes.{exp_byte};
+ghost use Rattle.paper.specs.Lister.{a_type, exp_fields};
 ghost use Rattle.lister.specs.Means.{Lists, stands, reader_at, Advances};
-ghost use Rattle.lister.specs.Passing.{Passes};
+ghost use Rattle.lister.specs.Passing.{Passes, Takes};
 ghost use Rattle.lister.specs.Stated.{Opens};
 
-const NO_SUCH_CODE: u8 = 4;
+use answers::Refusal;
+use codes::{ExpCode, TypeCode};
 
-const CUT_IMAGE: u8 = 5;
-
-// A code, its place and the place reached; the end of the image; or a refusal's number and place.
-#[derive(Clone, Copy)]
-pub enum Item {
-    Code(u8, usize, usize),
-    End,
-    Refused(u8, usize),
+// An expression's code, its place, and the place behind the fields that it passes over.
+#[derive(Clone, Copy, Debug, PartialEq, Eq)]
+pub struct Item {
+    pub code: ExpCode,
+    pub place: usize,
+    pub next: usize,
 }
 
-// The place after some fields, or a refusal's number and place.
-#[derive(Clone, Copy)]
-enum Past {
-    To(usize),
-    Refused(u8, usize),
-}
-
-// A type's code with its name byte, and the place after them: a whole type, or one with types inside; or a refusal.
-#[derive(Clone, Copy)]
-enum TypeCode {
-    Whole(usize),
-    Ref(usize),
-    Function(usize),
-    Wrong(u8, usize),
-}
-
-fn past_bytes(image: &[u8], at: usize, count: usize) -> Past
+// The place after `count` bytes.
+fn past_bytes(image: &[u8], at: usize, count: usize) -> Result<usize, Refusal>
     requires { 0 < count }
-    ensures { Passes image.now (some_bytes count ∷ []) at result }
+    ensures { Takes image.now count at result }
 {
-    if image.len() < at {
-        return Past::Refused(CUT_IMAGE, image.len());
+    if image.len().saturating_sub(at) < count {
+        return Err(Refusal::CutImage(image.len()));
     }
-    if count <= image.len() - at {
-        Past::To(at + count)
-    } else {
-        Past::Refused(CUT_IMAGE, image.len())
-    }
+    Ok(at + count)
 }
 
-fn type_code(image: &[u8], at: usize) -> TypeCode
+// A type's code, and the place after it and its name byte.
+#[tactic(auto, using(crate::proofs::Rules::names), unfolding(paper::specs::Lister::type_fields))]
+fn past_name(image: &[u8], at: usize) -> Result<(TypeCode, usize), Refusal>
     ensures { Opens image.now at result }
 {
-    if image.len() <= at {
-        return TypeCode::Wrong(CUT_IMAGE, image.len());
-    }
-    let code = image[at];
-    if code < 0x20 {
-        return TypeCode::Wrong(NO_SUCH_CODE, at);
-    }
-    if 0x24 < code {
-        return TypeCode::Wrong(NO_SUCH_CODE, at);
-    }
-    if code < 0x22 {
-        return TypeCode::Whole(at + 1);
-    }
-    if code == 0x24 {
-        return TypeCode::Function(at + 1);
-    }
-    if image.len() - at <= 1 {
-        return TypeCode::Wrong(CUT_IMAGE, image.len());
-    }
-    if code == 0x22 {
-        TypeCode::Whole(at + 2)
-    } else {
-        TypeCode::Ref(at + 2)
-    }
+    let Some(&byte) = image.get(at) else {
+        return Err(Refusal::CutImage(image.len()));
+    };
+    let Ok(code) = TypeCode::try_from(byte) else {
+        return Err(Refusal::NoSuchCode(at));
+    };
+    let next = match code {
+        TypeCode::Lock | TypeCode::Ref => past_bytes(image, at + 1, 1)?,
+        TypeCode::Unit | TypeCode::Int | TypeCode::Function => at + 1,
+    };
+    Ok((code, next))
 }
 
 // Past a type of any depth, with no recursion. `open` counts the Functions whose argument is being read: behind each one's
 // argument a set and a result are due, so the count says all that is due.
-fn past_type(image: &[u8], at: usize) -> Past
+#[tactic(auto, using(crate::proofs::Rules::types), unfolding(crate::specs::Stated::Opens))]
+fn past_type(image: &[u8], mut at: usize) -> Result<usize, Refusal>
     ensures { Passes image.now (a_type ∷ []) at result }
 {
     let mut open: usize = 0;
-    let mut i = at;
     loop {
-        match type_code(image, i) {
-            TypeCode::Function(j) => {
+        let (code, next) = past_name(image, at)?;
+        at = match code {
+            TypeCode::Function => {
                 open += 1;
-                i = j;
-                continue;
+                next
             }
-            TypeCode::Ref(j) => {
-                i = j;
-                continue;
-            }
-            TypeCode::Whole(j) => {
+            TypeCode::Ref => next,
+            TypeCode::Unit | TypeCode::Int | TypeCode::Lock => {
                 if open == 0 {
-                    return Past::To(j);
-                }
-                if image.len() - j < 4 {
-                    return Past::Refused(CUT_IMAGE, image.len());
+                    return Ok(next);
                 }
                 open -= 1;
-                i = j + 4;
-                continue;
+                past_bytes(image, next, 4)?
             }
-            TypeCode::Wrong(n, p) => return Past::Refused(n, p),
-        }
+        };
     }
 }
 
 // The fields of the table that are no expressions, after the code of an expression.
-fn past_fields(image: &[u8], code: u8, at: usize) -> Past
-    ensures { Passes image.now (exp_fields 1 code) at result }
+#[tactic(auto, using(crate::proofs::Rules::fields), unfolding(paper::specs::Lister::exp_fields))]
+fn past_fields(image: &[u8], code: ExpCode, at: usize) -> Result<usize, Refusal>
+    ensures { Passes image.now (exp_fields 1 (exp_byte code)) at result }
 {
-    if code == 0x02 {
-        return past_bytes(image, at, 4);
+    match code {
+        ExpCode::Number => past_bytes(image, at, 4),
+        ExpCode::Variable => past_bytes(image, at, 1),
+        ExpCode::Function => past_bytes(image, past_type(image, at)?, 4),
+        ExpCode::NewCell => past_type(image, past_bytes(image, at, 1)?),
+        ExpCode::If => past_type(image, at),
+        _ => Ok(at),
     }
-    if code == 0x03 {
-        return past_bytes(image, at, 1);
-    }
-    if code == 0x04 {
-        return match past_type(image, at) {
-            Past::To(j) => past_bytes(image, j, 4),
-            Past::Refused(n, p) => Past::Refused(n, p),
-        };
-    }
-    if code == 0x06 {
-        return match past_bytes(image, at, 1) {
-            Past::To(j) => past_type(image, j),
-            Past::Refused(n, p) => Past::Refused(n, p),
-        };
-    }
-    if code == 0x0F {
-        return past_type(image, at);
-    }
-    Past::To(at)
 }
 
-// What stands at a place, for a caller that keeps the place itself.
-pub fn next(image: &[u8], at: usize) -> Item
+// What stands at a place, for a caller that keeps the place itself; none at the end of the image.
+#[tactic(auto, using(crate::proofs::Rules::items))]
+pub fn next(image: &[u8], at: usize) -> Result<Option<Item>, Refusal>
     ensures { Lists image.now at result }
 {
-    if image.len() <= at {
-        return Item::End;
-    }
-    let code = image[at];
-    if code < 0x01 {
-        return Item::Refused(NO_SUCH_CODE, at);
-    }
-    if 0x0F < code {
-        return Item::Refused(NO_SUCH_CODE, at);
-    }
-    match past_fields(image, code, at + 1) {
-        Past::To(j) => Item::Code(code, at, j),
-        Past::Refused(n, p) => Item::Refused(n, p),
-    }
-}
-
-// Where a reader that stood at `at` stands after `item`.
-fn reached(at: usize, item: Item) -> usize
-    ensures { result ≡ stands at item }
-{
-    match item {
-        Item::Code(_, _, j) => j,
-        Item::End => at,
-        Item::Refused(_, _) => at,
-    }
+    let Some(&byte) = image.get(at) else {
+        return Ok(None);
+    };
+    let Ok(code) = ExpCode::try_from(byte) else {
+        return Err(Refusal::NoSuchCode(at));
+    };
+    let next = past_fields(image, code, at + 1)?;
+    Ok(Some(Item {
+        code,
+        place: at,
+        next,
+    }))
 }
 
 // "a reader that knows the image and the place it has reached"
@@ -179,40 +117,54 @@ pub struct Reader<'a> {
     pub at: usize,
 }
 
-// A reader at the start: "starting at 3".
-pub fn start<'a>(image: &'a [u8]) -> Reader<'a>
-    ensures { result ≡ reader_at image.entry 3 }
-{
-    Reader { image, at: 3 }
+impl<'a> Reader<'a> {
+    // A reader at the start: "starting at 3".
+    pub fn new(image: &'a [u8]) -> Reader<'a>
+        ensures { result ≡ reader_at image.entry 3 }
+    {
+        Reader { image, at: 3 }
+    }
+
+    // The place that the reader has reached.
+    pub fn place(self) -> usize
+        ensures { result ≡ self.entry.at }
+    {
+        self.at
+    }
+
+    // What stands at the place that the reader has reached.
+    pub fn here(self) -> Result<Option<Item>, Refusal>
+        ensures { Lists self.entry.image.now self.entry.at result }
+    {
+        next(self.image, self.at)
+    }
+
+    // The next item; the reader moves on past a code, and else stays where it was.
+    pub fn advance(&mut self) -> Result<Option<Item>, Refusal>
+        ensures { Advances self.old result self.new }
+    {
+        let item = next(self.image, self.at);
+        if let Ok(Some(found)) = item {
+            self.at = found.next;
+        }
+        item
+    }
 }
 
-// The place that the reader has reached.
-pub fn place<'a>(reader: Reader<'a>) -> usize
-    ensures { result ≡ reader.entry.at }
-{
-    reader.at
-}
+// The items in order; a refusal comes again at each call, since the reader stays at it.
+impl<'a> Iterator for Reader<'a> {
+    type Item = Result<Item, Refusal>;
 
-// What stands at the place that the reader has reached.
-pub fn here<'a>(reader: Reader<'a>) -> Item
-    ensures { Lists reader.entry.image.now reader.entry.at result }
-{
-    next(reader.image, reader.at)
-}
+    ghost next_gives = { λ before r after. Advances before (option_transpose r) after };
 
-// The next item; the reader moves on past a code, and else stays where it was.
-pub fn advance<'s, 'a>(reader: &'s mut Reader<'a>) -> Item
-    ensures { Advances reader.old result reader.new }
-{
-    let at = reader.at;
-    let item = next(reader.image, at);
-    reader.at = reached(at, item);
-    item
+    fn next(&mut self) -> Option<Result<Item, Refusal>> {
+        self.advance().transpose()
+    }
 }
 
 // The first item of an image: a caller needs no reader of its own.
-pub fn first(image: &[u8]) -> Item
+pub fn first(image: &[u8]) -> Result<Option<Item>, Refusal>
     ensures { Lists image.now 3 result }
 {
-    here(start(image))
+    Reader::new(image).here()
 }

@@ -1,56 +1,36 @@
--- `lister::past_type` meets its contract. The loop's invariant: a type is due at i, in the arguments of `open` Functions, and what follows there is
--- what follows from the start. Each turn passes a byte, so the bytes left are the measure.
-use Prim.Native.Nat.{ℕ, zero, suc, ◌<◌}
-use native.Mathlib.Omega.{arith}
-use mathlib.Core.Path.{◌≡◌, refl}
-use Rattle.lister.specs.Stated.{Opens, due_first, due_function, due_ref, due_wrong, due_last, due_set, due_cut}
+-- The turns of `lister::past_type`: at a Function, and at a type of which nothing is left. Each turn passes a byte, so the bytes left are the measure.
+use Rattle.std.proofs.Common.{rules, ◌≡◌, ◌⊎◌, inl, inr, []}
+use Rattle.std.proofs.lemmas.Result.{err_from_is_err_and}
+use Rattle.codes.specs.declared.TypeCode.{TypeCode}
+use Rattle.codes.specs.declared.TypeCode.TheVariants as types
+use Rattle.lister.specs.Stated.{Opens, left, due_first, due_function, due_last, due_set, due_cut}
 use Rattle.lister.proofs.past_type.Goals as goal
 
-pos : (n : ℕ) → (n ≡ 0 → ⊥) → 0 < n
-pos zero h = absurd (h refl)
-pos (suc n) h = omega arith
+nothing_left : (c : TypeCode) → (c ≡ types.Unit) ⊎ ((c ≡ types.Int) ⊎ (c ≡ types.Lock)) → left c ≡ []
+nothing_left c (inl e) = rw e
+nothing_left c (inr (inl e)) = rw e
+nothing_left c (inr (inr e)) = rw e
 
-pub loop-j-init : goal.loop-j-init
-loop-j-init c = due_first
+pub loop-code-init : goal.loop-code-init
+loop-code-init c = due_first _ _
 
-pub overflow_add-open : goal.overflow_add-open
+pub loop-code-preserved-in-Function : goal.loop-code-preserved-in-Function
 unfolding Opens
-overflow_add-open c = let o = rw c.in-Function.is at c.type_code.ensures in omega arith
-
-pub loop-j-smaller-in-Function : goal.loop-j-smaller-in-Function
-unfolding Opens
-loop-j-smaller-in-Function c = let o = rw c.in-Function.is at c.type_code.ensures in omega arith
-
-pub loop-j-preserved-in-Function : goal.loop-j-preserved-in-Function
-loop-j-preserved-in-Function c = due_function c.loop-j.invariant _ (rw c.in-Function.is at c.type_code.ensures)
-
-pub loop-j-smaller-in-Ref : goal.loop-j-smaller-in-Ref
-unfolding Opens
-loop-j-smaller-in-Ref c = let o = rw c.in-Ref.is at c.type_code.ensures in omega arith
-
-pub loop-j-preserved-in-Ref : goal.loop-j-preserved-in-Ref
-loop-j-preserved-in-Ref c = due_ref c.loop-j.invariant _ (rw c.in-Ref.is at c.type_code.ensures)
+loop-code-preserved-in-Function c = due_function _ _ _ _ _ c.loop-code.invariant (rw c.in-Function.is at c.in_ok-code.ensures)
 
 pub returns-then-open-eq0 : goal.returns-then-open-eq0
-returns-then-open-eq0 c = due_last _ (rw c.if-open-eq0.true at c.loop-j.invariant) (rw c.in-Whole.is at c.type_code.ensures)
-
-pub overflow_sub-image : goal.overflow_sub-image
 unfolding Opens
-overflow_sub-image c = let o = rw c.in-Whole.is at c.type_code.ensures in omega arith
+returns-then-open-eq0 c = due_last _ _ _ _ _ (nothing_left _ c.in-Unit.is) c.in_ok-code.ensures (rw c.if-open-eq0.true at c.loop-code.invariant)
 
-pub returns-then-image-j-lt4 : goal.returns-then-image-j-lt4
-returns-then-image-j-lt4 c = due_cut _ _ (pos _ c.if-open-eq0.false) c.loop-j.invariant (rw c.in-Whole.is at c.type_code.ensures) c.if-image-j-lt4.true
-
-pub overflow_add-i : goal.overflow_add-i
+pub returns-in_err-at-in-Unit : goal.returns-in_err-at-in-Unit
 unfolding Opens
-overflow_add-i c = let o = rw c.in-Whole.is at c.type_code.ensures in omega arith
+returns-in_err-at-in-Unit c =
+    let p = err_from_is_err_and c.from_residual-in_err-at-in-Unit.result c.from_residual-in_err-at-in-Unit.ensures.1 in
+    let e = c.in_err-at-in-Unit.ensures in
+    rw (p.1, p.2, e.0) (due_cut _ _ _ _ _ (nothing_left _ c.in-Unit.is) c.in_ok-code.ensures _ (search rules) c.loop-code.invariant e.1)
 
-pub loop-j-smaller : goal.loop-j-smaller
+pub loop-code-preserved : goal.loop-code-preserved
 unfolding Opens
-loop-j-smaller c = let o = rw c.in-Whole.is at c.type_code.ensures in omega arith
-
-pub loop-j-preserved : goal.loop-j-preserved
-loop-j-preserved c = due_set _ _ (pos _ c.if-open-eq0.false) c.loop-j.invariant (rw c.in-Whole.is at c.type_code.ensures) c.if-image-j-lt4.false
-
-pub returns-in-Wrong : goal.returns-in-Wrong
-returns-in-Wrong c = due_wrong c.loop-j.invariant _ _ (rw c.in-Wrong.is at c.type_code.ensures)
+loop-code-preserved c =
+    let t = c.in_ok-at-in-Unit.ensures in
+    due_set _ _ _ _ _ (nothing_left _ c.in-Unit.is) c.in_ok-code.ensures _ _ _ (search rules) c.loop-code.invariant t.0 t.1

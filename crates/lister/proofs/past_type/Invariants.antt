@@ -3,8 +3,8 @@ use lib.ListN.{length}
 use Rattle.lister.specs.Stated.{Due}
 use Rattle.lister.proofs.past_type.Given as goal
 
-abbrev pub invariant-loop-j : goal.invariant-loop-j
-invariant-loop-j l = Due l.image l.at l.open l.i
+abbrev pub invariant-loop-code : goal.invariant-loop-code
+invariant-loop-code l = Due l.image l.fn.at l.open l.at
 
-abbrev pub decreases-loop-j : goal.decreases-loop-j
-decreases-loop-j l = length l.image - l.i
+abbrev pub decreases-loop-code : goal.decreases-loop-code
+decreases-loop-code l = length l.image - l.at
