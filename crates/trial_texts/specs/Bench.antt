@@ -1,6 +1,7 @@
 -- The public step and the race finder on a buffer that holds a state, as the trial uses them: what they say of the state, and that only the
 -- state's own bytes change.
-use Rattle.std.specs.Prelude.{◌≡◌, true, false, ℕ, ◌≤◌, length, drop}
+use Rattle.std.specs.Prelude.{◌≡◌, true, false, ℕ, ◌≤◌, length, drop, Result, Ok, Err, Some, None}
+use Rattle.std.specs.Prelude as code
 use Rattle.std.proofs.Math.Path.{refl, sym, ap, subst}
 use Rattle.std.proofs.Common.{◌∙◌, drop_at}
 use mathlib.Core.List.{List}
@@ -19,11 +20,14 @@ use Rattle.laws.specs.StateBytes.{good_sound, plan_length, one_state}
 use Rattle.laws.specs.CallLaws.{laid_length, step_call_lem, race_call_lem}
 use Rattle.laws.specs.RunLaws.{Buffer, call_says, call_state, call_buffer}
 use Rattle.laws.specs.Keeping.{good_step}
-use Rattle.states.specs.declared.races.Race.{Race}
-use Rattle.states.specs.declared.races.Race.TheVariants.{Between, NoRace, BufferShort as Race·short, NoState as Race·foreign}
+use Rattle.states.specs.declared.races.Pair.{Pair}
+use Rattle.states.specs.declared.Unfit.{Unfit}
+use Rattle.states.specs.declared.Unfit.TheVariants as unfit
 use Rattle.states.specs.RaceIs.{Raced, case_of as race_case}
-use Rattle.machine.specs.declared.step.Step.{Step}
-use Rattle.machine.specs.declared.step.Step.TheVariants.{Made, BufferShort, NoState, NoSuchThread, IsFinished, WaitsFor, IsStuck, TooMany, TooLong}
+use Rattle.machine.specs.declared.answer.Made.{Made}
+use Rattle.machine.specs.declared.answer.NoStep.{NoStep}
+use Rattle.machine.specs.declared.answer.NoStep.TheVariants.{BufferShort, NoState, NoSuchThread, IsFinished, WaitsFor, IsStuck, TooMany, TooLong}
+use Rattle.machine.specs.Answer.{Step, kind_number}
 use Rattle.machine.specs.Answering.{case_of}
 use Rattle.machine.specs.Public.{Steps}
 use Rattle.trial_texts.specs.Few.{Few, step_few}
@@ -58,18 +62,6 @@ laid_beyond s T g h =
 
 -- ---- the step
 
--- any answer but `Made`
-abbrev pub NotMade : Step → Type 0
-NotMade (Made k n) = ⊥
-NotMade BufferShort = Unit {0}
-NotMade NoState = Unit {0}
-NotMade NoSuchThread = Unit {0}
-NotMade IsFinished = Unit {0}
-NotMade (WaitsFor l) = Unit {0}
-NotMade IsStuck = Unit {0}
-NotMade TooMany = Unit {0}
-NotMade TooLong = Unit {0}
-
 -- the step of thread i was made, and what stands in the buffer then
 pub record Moved (S : State) (i k n : ℕ) (s s' : List ℕ) : Type 0 where
   pub after : State
@@ -94,10 +86,10 @@ module _ {s : List ℕ} {S : State} (b : Bench s S) {i : ℕ} {s' : List ℕ} wh
   left_of : {r : Step} → Steps s i s' r → (step_call sixteen s i).state ≡ s'
   left_of a = ap (λ (c : StepCall). c.state) a.answers.says
 
-  pub step_made : {k n : ℕ} → Steps s i s' (Made k n) → Moved S i k n s s'
+  pub step_made : {m : Made} → Steps s i s' (Ok m) → Moved S i (kind_number m.kind) m.number s s'
   unfolding told tried
-  step_made {k} {n} a =
-      let e : (step sixteen S i).says ≡ record { answer = 0; kind = k; number = n } = says_of a in
+  step_made {m} a =
+      let e : (step sixteen S i).says ≡ record { answer = 0; kind = kind_number m.kind; number = m.number } = says_of a in
       let f = left_of a in
       let z = ap (λ (x : Answer). x.answer) e in
       record {
@@ -118,36 +110,36 @@ module _ {s : List ℕ} {S : State} (b : Bench s S) {i : ℕ} {s' : List ℕ} wh
         same = sym (left_of a) ∙ ap (λ (c : StepCall). c.state) (step_call_lem sixteen sixteen_fits s S b.room b.holds i) ∙ rw e;
       }
 
-  pub step_unmade : {r : Step} → Steps s i s' r → NotMade r → Unmoved S i s s'
+  pub step_unmade : {e : NoStep} → Steps s i s' (Err e) → Unmoved S i s s'
   unfolding told
-  step_unmade {r = Made k m} a n = absurd n
-  step_unmade {r = BufferShort} a n = refused a refl
-  step_unmade {r = NoState} a n = refused a refl
-  step_unmade {r = NoSuchThread} a n = refused a refl
-  step_unmade {r = IsFinished} a n = refused a refl
-  step_unmade {r = WaitsFor l} a n = refused a refl
-  step_unmade {r = IsStuck} a n = refused a refl
-  step_unmade {r = TooMany} a n = refused a refl
-  step_unmade {r = TooLong} a n = refused a refl
+  step_unmade {e = BufferShort} a = refused a refl
+  step_unmade {e = NoState} a = refused a refl
+  step_unmade {e = NoSuchThread} a = refused a refl
+  step_unmade {e = IsFinished} a = refused a refl
+  step_unmade {e = WaitsFor l} a = refused a refl
+  step_unmade {e = IsStuck} a = refused a refl
+  step_unmade {e = TooMany} a = refused a refl
+  step_unmade {e = TooLong} a = refused a refl
 
 -- ---- the race finder
 
+abbrev pub Found : Type 0
+Found = Result (code.Option Pair) Unfit
+
 module _ {s : List ℕ} {S : State} (b : Bench s S) where
-  pair_of : {r : Race} → Raced s r → told_race (race_case r) ≡ record { answer = done; pair = race 0 S.threads }
+  pair_of : {r : Found} → Raced s r → told_race (race_case r) ≡ record { answer = done; pair = race 0 S.threads }
   pair_of a = a.says ∙ race_call_lem sixteen sixteen_fits s S b.room b.holds
 
-  pub race_between : {i j c : ℕ} → Raced s (Between i j c) → race 0 S.threads ≡ some (record { first = i; second = j; cell = c })
+  pub race_between : {p : Pair} → Raced s (Ok (Some p)) → race 0 S.threads ≡ some (record { first = p.first; second = p.second; cell = p.cell })
   unfolding told_race
   race_between a = sym (ap (λ (x : RaceCall). x.pair) (pair_of a))
 
-  pub race_none : Raced s NoRace → race 0 S.threads ≡ none
+  pub race_none : Raced s (Ok None) → race 0 S.threads ≡ none
   unfolding told_race
   race_none a = sym (ap (λ (x : RaceCall). x.pair) (pair_of a))
 
-  pub race_long : Raced s Race·short → ⊥
+  -- it is a state
+  pub race_fit : {u : Unfit} → Raced s (Err u) → ⊥
   unfolding told_race
-  race_long a = let e = ap (λ (x : RaceCall). x.answer) (pair_of a) in omega arith
-
-  pub race_state : Raced s Race·foreign → ⊥
-  unfolding told_race
-  race_state a = let e = ap (λ (x : RaceCall). x.answer) (pair_of a) in omega arith
+  race_fit {u = unfit.BufferShort} a = let e = ap (λ (x : RaceCall). x.answer) (pair_of a) in omega arith
+  race_fit {u = unfit.NoState} a = let e = ap (λ (x : RaceCall). x.answer) (pair_of a) in omega arith

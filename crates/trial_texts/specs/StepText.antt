@@ -1,5 +1,5 @@
 -- The lines of steps: what came of trying a thread, and a text that is written line by line.
-use Rattle.std.specs.Prelude.{◌≡◌, ℕ, ◌+◌, ◌≤◌, length, take, Some, None}
+use Rattle.std.specs.Prelude.{◌≡◌, ℕ, ◌+◌, ◌≤◌, length, take, Ok, Err, Some, None}
 use Rattle.std.specs.Prelude as code
 use Rattle.std.specs.declared.ops.ControlFlow.{ControlFlow}
 use Rattle.std.specs.declared.ops.ControlFlow.TheVariants.{Continue, Break}
@@ -16,12 +16,13 @@ use Rattle.trial_texts.specs.Put.{Room, Put, put_length, put_then, written_put}
 use Rattle.trial_texts.specs.Lines.{race_line, three_length}
 use Rattle.laws.specs.Cards.{sixteen_fits}
 use Rattle.laws.specs.Touched.{race_small}
-use Rattle.machine.specs.declared.step.Step.{Step}
-use Rattle.machine.specs.declared.step.Step.TheVariants.{Made as Made_step}
+use Rattle.machine.specs.declared.answer.Made.{Made as Step·made}
+use Rattle.machine.specs.declared.answer.NoStep.{NoStep}
+use Rattle.machine.specs.Answer.{kind_number}
 use Rattle.machine.specs.Public.{Steps}
-use Rattle.trial_texts.specs.Bench.{Bench, Beyond, beyond_same, NotMade, Moved, step_made, step_unmade, race_between, race_none, race_long, race_state}
-use Rattle.states.specs.declared.races.Race.{Race as Found}
-use Rattle.states.specs.declared.races.Race.TheVariants.{Between, NoRace, BufferShort, NoState}
+use Rattle.trial_texts.specs.Bench.{Bench, Beyond, beyond_same, Moved, step_made, step_unmade, Found, race_between, race_none, race_fit}
+use Rattle.states.specs.declared.races.Pair.{Pair}
+use Rattle.states.specs.declared.Unfit.{Unfit}
 use Rattle.states.specs.RaceIs.{Raced as Finds}
 
 -- the state buffer holds a state, and there is room for so many bytes of text
@@ -31,13 +32,6 @@ pub record Ready (room : ℕ) (s out : List ℕ) (at : ℕ) : Type 0 where
   pub space : at + room ≤ length out
 
 -- ---- the race's line after a step
-
--- any answer of the race finder but a pair
-abbrev pub NotBetween : Found → Type 0
-NotBetween (Between i j c) = ⊥
-NotBetween NoRace = Unit {0}
-NotBetween BufferShort = Unit {0}
-NotBetween NoState = Unit {0}
 
 -- the race, behind whose line the text ends; or nothing, and it goes on from where it was
 pub data Raced (out out' : List ℕ) (at : ℕ) : Option Race → ControlFlow ℕ ℕ → Type 0 where
@@ -55,27 +49,29 @@ race_length {S} {r = r} b e =
     omega (arith, length-append race_word (three r.first r.second r.cell))
 
 -- the ways of the race finder
-module _ {s out : List ℕ} {at : ℕ} {t : Found} (f : Finds s t) where
-  between_room : {i j c : ℕ} → Ready 14 s out at → t ≡ Between i j c → Room out at (race_line i j c)
-  between_room w e =
-      let l = race_length w.bench (race_between w.bench (subst (Finds s) e f)) in
+module _ {s out : List ℕ} {at : ℕ} where
+  between_room : {p : Pair} → Ready 14 s out at → Finds s (Ok (Some p)) → Room out at (race_line p.first p.second p.cell)
+  between_room w f =
+      let l = race_length w.bench (race_between w.bench f) in
       let k = w.space in
       omega arith
 
-  pub races_between : {i j c : ℕ} {out' : List ℕ} {end : ℕ} → Ready 14 s out at → t ≡ Between i j c → Written (take at out ++ race_line i j c) out out' end
-      → Races s out at out' (Break end)
-  races_between {out' = out'} {end} w e p = record {
-    tells = λ S b. subst (λ (o : Option Race). Raced out out' at o (Break end)) (sym (race_between b (subst (Finds s) e f))) (between (written_put (between_room w e) p));
+  pub races_between : {p : Pair} {out' : List ℕ} {end : ℕ} → Ready 14 s out at → Finds s (Ok (Some p))
+      → Written (take at out ++ race_line p.first p.second p.cell) out out' end → Races s out at out' (Break end)
+  races_between {out' = out'} {end} w f p = record {
+    tells = λ S b. subst (λ (o : Option Race). Raced out out' at o (Break end)) (sym (race_between b f)) (between (written_put (between_room w f) p));
   }
 
--- a state has a race or none, whatever else the finder could say
-pub races_none : {s out : List ℕ} {at : ℕ} {t : Found} → Finds s t → Ready 14 s out at → NotBetween t → Races s out at out (Continue at)
-races_none {t = Between i j c} f w n = absurd n
-races_none {out = out} {at} {t = NoRace} f w n = record {
+-- no pair: a state has a race or none, whatever else the finder could say
+pub data NoPair : Found → Type 0 where
+  none_found : NoPair (Ok None)
+  unfit : {u : Unfit} → NoPair (Err u)
+
+pub races_none : {s out : List ℕ} {at : ℕ} {t : Found} → Finds s t → NoPair t → Ready 14 s out at → Races s out at out (Continue at)
+races_none {out = out} {at} f none_found w = record {
   tells = λ S b. subst (λ (o : Option Race). Raced out out at o (Continue at)) (sym (race_none b f)) (quiet refl);
 }
-races_none {t = BufferShort} f w n = absurd (race_long w.bench f)
-races_none {t = NoState} f w n = absurd (race_state w.bench f)
+races_none f unfit w = absurd (race_fit w.bench f)
 
 -- ---- what came of trying a thread
 
@@ -96,21 +92,24 @@ pub record Tries (pick : State → Option Made) (s out : List ℕ) (at : ℕ) (s
   pub tells : (S : State) → Bench s S → Told S s' out out' at (pick S) r
   pub beyond : Beyond s s'
 
-pub made_by : {s s' : List ℕ} {i k n : ℕ} {r : Step} → Steps s i s' r → r ≡ Made_step k n → Steps s i s' (Made_step k n)
-made_by {s} {s'} {i} a e = subst (Steps s i s') e a
-
 module _ {s out : List ℕ} {at i : ℕ} {s' : List ℕ} (w : Ready 23 s out at) where
   -- no step
-  pub tries_none : {r : Step} → Steps s i s' r → NotMade r → Tries (λ S. tried sixteen S i) s out at s' out None
-  tries_none a n = record {
+  pub tries_none : {e : NoStep} → Steps s i s' (Err e) → Tries (λ S. tried sixteen S i) s out at s' out None
+  tries_none a = record {
     tells = λ S b.
-        let u = step_unmade b a n in
+        let u = step_unmade b a in
         subst (λ (o : Option Made). Told S s' out out at o None) (sym u.try) (stays (subst (λ (x : List ℕ). Bench x S) (sym u.same) b) refl);
-    beyond = subst (Beyond s) (sym (step_unmade w.bench a n).same) (beyond_same s);
+    beyond = subst (Beyond s) (sym (step_unmade w.bench a).same) (beyond_same s);
   }
 
   -- a step: its line, and the race's
-  module _ {k n : ℕ} (a : Steps s i s' (Made_step k n)) where
+  module _ {m : Step·made} (a : Steps s i s' (Ok m)) where
+    abbrev k : ℕ
+    k = kind_number m.kind
+
+    abbrev n : ℕ
+    n = m.number
+
     abbrev made_in : State → Made
     made_in T = record { thread = i; kind = k; number = n; after = T }
 
@@ -123,9 +122,9 @@ module _ {s out : List ℕ} {at i : ℕ} {s' : List ℕ} (w : Ready 23 s out at)
     line_room : Room out at (three i k n)
     line_room = let l = line_length in let h = w.space in omega arith
 
-    module _ {out₁ : List ℕ} {next : ℕ} (wrote : Written (take at out ++ three i k n) out out₁ next) where
+    module _ {j : ℕ} (same : j ≡ k) {out₁ : List ℕ} {next : ℕ} (wrote : Written (take at out ++ three i j n) out out₁ next) where
       line : Put out out₁ at (three i k n) next
-      line = written_put line_room wrote
+      line = written_put line_room (subst (λ (x : ℕ). Written (take at out ++ three i x n) out out₁ next) same wrote)
 
       pub race_ready : Ready 14 s' out₁ next
       race_ready = record {

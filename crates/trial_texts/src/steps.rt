@@ -7,9 +7,9 @@ ghost use Rattle.trial_texts.specs.StepText.{Ready, Races, Tries};
 ghost use Rattle.trial_texts.specs.Along.{Prints};
 
 use crate::lines::{race_line, three};
-use machine::step::Step;
+use machine::entry::step;
 use places::byte_at;
-use states::races::Race;
+use states::race;
 use std::ops::ControlFlow;
 
 // The race's line, if there is one after a step: the text ends behind it, or goes on from where it was.
@@ -17,11 +17,14 @@ fn after_step(state: &[u8], out: &mut [u8], at: usize) -> ControlFlow<usize, usi
     requires { Ready 14 state.now out.old at }
     ensures { Races state.now out.old at out.new result }
 {
-    let Race::Between(i, j, c) = states::race(state) else {
-        return ControlFlow::Continue(at);
-    };
-    let end = race_line(i, j, c, out, at);
-    ControlFlow::Break(end)
+    match race(state) {
+        Ok(Some(pair)) => {
+            let end = race_line(pair.first, pair.second, pair.cell, out, at);
+            ControlFlow::Break(end)
+        }
+        Ok(None) => ControlFlow::Continue(at),
+        Err(_) => ControlFlow::Continue(at),
+    }
 }
 
 // The line of a thread's step, and the race after it; none where it makes no step.
@@ -34,10 +37,11 @@ fn step_line(
     requires { Ready 23 state.old out.old at }
     ensures { Tries (λ S. tried sixteen S thread) state.old out.old at state.new out.new result }
 {
-    let Step::Made(kind, number) = machine::entry::step(state, thread) else {
+    let Ok(made) = step(state, thread) else {
         return None;
     };
-    let next = three(thread, kind as u64, number as u64, out, at);
+    let kind = u64::from(made.kind.number());
+    let next = three(thread, kind, made.number as u64, out, at);
     Some(after_step(state, out, next))
 }
 

@@ -1,7 +1,7 @@
 -- What is due after a call. A comparison that answers `Exactly` this can neither pass what is not due nor fail what is.
 use Rattle.std.specs.Prelude.{Bool, true, List, ◌≡◌, ℕ, ◌≤◌, ◌<◌, length, get_or}
-use Rattle.judging.specs.declared.entry.Verdict.{Verdict}
-use Rattle.judging.specs.declared.entry.Verdict.TheVariants.{Refused}
+use Rattle.vectors.specs.declared.rows.Row.{Row}
+use Rattle.vectors.specs.declared.rows.Row.TheVariants.{One}
 
 pub record Exactly (r : Bool) (P : Type 0) : Type 0 where
   pub only : r ≡ true → P
@@ -16,16 +16,16 @@ pub record Cleared (size : ℕ) (s : List ℕ) : Type 0 where
   pub zero : (k : ℕ) → k < size → get_or s k 0 ≡ 0
   pub rest : (k : ℕ) → size ≤ k → k < length s → get_or s k 0 ≡ 165
 
-pub record AsDue (verdict due : Verdict) (types due_types work : List ℕ) : Type 0 where
-  pub answer : verdict ≡ due
+pub record AsDue (row due : Row) (types due_types work : List ℕ) : Type 0 where
+  pub answer : row ≡ due
   pub types_due : types ≡ due_types
   pub work_due : Cleared 40960 work
 
-pub record LoadAsDue (verdict due : Verdict) (kept : List ℕ) : Type 0 where
-  pub answer : verdict ≡ due
+pub record LoadAsDue (row due : Row) (kept : List ℕ) : Type 0 where
+  pub answer : row ≡ due
   pub state_kept : Filled 165 kept
 
-pub record Untouched (verdict : Verdict) (types work : List ℕ) : Type 0 where
-  pub answer : verdict ≡ Refused 1 0
+pub record Untouched (row : Row) (types work : List ℕ) : Type 0 where
+  pub answer : row ≡ One 1 0
   pub types_kept : Filled 165 types
   pub work_kept : Filled 165 work

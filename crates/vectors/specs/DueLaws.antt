@@ -1,8 +1,8 @@
 -- What the comparisons show, one law for each way out of them.
 use Rattle.std.specs.Prelude.{Bool, true, false, List, ◌≡◌, refl, ℕ, ◌+◌, ◌-◌, ◌≤◌, ◌<◌, eqb, length, get_or, take, drop}
 use Rattle.std.proofs.Common.{ap, sym, ◌∙◌, arith, eq-eqb, eqb-true, length-take, length-drop, take_all, length-take-le, get_or-take, get_or-drop}
-use Rattle.judging.specs.declared.entry.Verdict.{Verdict}
-use Rattle.judging.specs.declared.entry.Verdict.TheVariants.{Accepted, Refused}
+use Rattle.vectors.specs.declared.rows.Row.{Row}
+use Rattle.vectors.specs.declared.rows.Row.TheVariants.{One}
 use Rattle.vectors.specs.Due.{Exactly, Filled, Cleared, AsDue, LoadAsDue, Untouched}
 
 pub not_so : {P : Type 0} → (P → ⊥) → Exactly false P
@@ -10,25 +10,6 @@ not_so k = record { only = λ h. absurd (let z : ◌≡◌ {A = ℕ} 0 1 = cc in
 
 pub so : {P : Type 0} → P → Exactly true P
 so p = record { only = λ _. p; always = λ _. refl }
-
--- two verdicts, by their variants
-module _ (a b : Verdict) where
-  pub same_size : (n m : ℕ) → a ≡ Accepted n → b ≡ Accepted m → Exactly (eqb n m) (a ≡ b)
-  same_size n m e f =
-      record { only = λ h. let g : n ≡ m = eqb-true n m h in cc; always = λ h. let g : n ≡ m = cc in eq-eqb n m g }
-
-  pub same_place : (k l p q : ℕ) → a ≡ Refused k p → b ≡ Refused l q → k ≡ l → Exactly (eqb p q) (a ≡ b)
-  same_place k l p q e f i =
-      record { only = λ h. let g : p ≡ q = eqb-true p q h in cc; always = λ h. let g : p ≡ q = cc in eq-eqb p q g }
-
-  pub other_number : (k l p q : ℕ) → a ≡ Refused k p → b ≡ Refused l q → (k ≡ l → ⊥) → Exactly false (a ≡ b)
-  other_number k l p q e f i = not_so (λ h. i (cc))
-
-  pub accepted_not : (n k p : ℕ) → a ≡ Accepted n → b ≡ Refused k p → Exactly false (a ≡ b)
-  accepted_not n k p e f = not_so (λ h. let z : ◌≡◌ {A = ℕ} 0 1 = cc in omega arith)
-
-  pub refused_not : (n k p : ℕ) → a ≡ Refused k p → b ≡ Accepted n → Exactly false (a ≡ b)
-  refused_not n k p e f = not_so (λ h. let z : ◌≡◌ {A = ℕ} 0 1 = cc in omega arith)
 
 -- a test that failed, of a part that is due
 pub fails : {P Q : Type 0} {r : Bool} → Exactly r P → r ≡ false → (Q → P) → Exactly false Q
@@ -60,14 +41,14 @@ module _ (size : ℕ) (s : List ℕ) (long : size ≤ length s) where
   pub cleared_zero : Cleared size s → Filled 0 (take size s)
   cleared_zero d k l = let m : k < size = omega (arith, simp length-take at l) in get_or-take size s k 0 m ∙ d.zero k m
 
-pub due_rest : (v d : Verdict) (t e w : List ℕ) {r : Bool} → v ≡ d → t ≡ e → Exactly r (Cleared 40960 w) → Exactly r (AsDue v d t e w)
+pub due_rest : (v d : Row) (t e w : List ℕ) {r : Bool} → v ≡ d → t ≡ e → Exactly r (Cleared 40960 w) → Exactly r (AsDue v d t e w)
 due_rest v d t e w a b x =
     record { only = λ h. record { answer = a; types_due = b; work_due = x.only h }; always = λ q. x.always q.work_due }
 
-pub load_rest : (v d : Verdict) (s : List ℕ) {r : Bool} → v ≡ d → Exactly r (Filled 165 s) → Exactly r (LoadAsDue v d s)
+pub load_rest : (v d : Row) (s : List ℕ) {r : Bool} → v ≡ d → Exactly r (Filled 165 s) → Exactly r (LoadAsDue v d s)
 load_rest v d s a x = record { only = λ h. record { answer = a; state_kept = x.only h }; always = λ q. x.always q.state_kept }
 
-pub untouched_rest : (v : Verdict) (t w : List ℕ) {r : Bool} → v ≡ Refused 1 0 → Filled 165 t → Exactly r (Filled 165 w)
+pub untouched_rest : (v : Row) (t w : List ℕ) {r : Bool} → v ≡ One 1 0 → Filled 165 t → Exactly r (Filled 165 w)
     → Exactly r (Untouched v t w)
 untouched_rest v t w a b x =
     record { only = λ h. record { answer = a; types_kept = b; work_kept = x.only h }; always = λ q. x.always q.work_kept }

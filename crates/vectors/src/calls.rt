@@ -1,62 +1,37 @@
 // A line's call of the machine: on the state that stands in its field, compared with the answer and the state that are due.
-use crate::reports::{Outcome, both, outcome_of};
+use crate::reports::Outcome;
 use crate::rows::Row;
+use crate::sparse::Lent;
 use crate::{buffers, rows, sparse};
-use lines::digits::Number;
-use machine::default_run::default_run;
-use machine::entry::step;
-use machine::run::run;
 
-// A step of a thread, the run of the schedule beside it, or the default run up to a limit.
-#[derive(Clone, Copy)]
-pub(crate) enum Call {
-    Step(u64),
-    Run,
-    Default(u64),
-}
-
-fn made(state: &mut [u8], call: Call, schedule: &[u8]) -> Row {
-    match call {
-        Call::Step(thread) => rows::step_row(step(state, thread)),
-        Call::Run => rows::run_row(run(state, schedule)),
-        Call::Default(limit) => rows::default_row(default_run(state, limit)),
-    }
-}
-
-fn made_first(state: &mut [u8], lent: usize, call: Call, schedule: &[u8]) -> Row {
-    if lent < state.len() {
-        return made(&mut state[..lent], call, schedule);
-    }
-    made(state, call, schedule)
-}
-
-fn made_on(
+fn made_on<F: Fn(&mut [u8]) -> Row>(
     before: &[u8],
     after: &[u8],
-    call: Call,
-    schedule: &[u8],
+    call: &F,
     due: Row,
-    all: bool,
-) -> Outcome {
+    lent: Lent,
+) -> Outcome
+    requires { F.IsAlwaysCallable call.now }
+{
     let mut state = buffers::state();
     let mut expected = buffers::state();
-    let Number::Is(length) = sparse::pair(before, after, &mut state, &mut expected) else {
+    let Some(length) = sparse::pair(before, after, &mut state, &mut expected) else {
         return Outcome::Unreadable;
     };
-    let row = made_first(&mut state, sparse::lent(length, all), call, schedule);
-    outcome_of(rows::as_due(row, due, &state, &expected))
+    let n = lent.of(length).min(49500);
+    let row = call(&mut state[..n]);
+    Outcome::from(rows::as_due(row, due, &state, &expected))
 }
 
 // The fields of the state before the call and after it, and the call, on as much as the state is long and on more.
-pub(crate) fn compared(
+pub(crate) fn compared<F: Fn(&mut [u8]) -> Row>(
     before: &[u8],
     after: &[u8],
-    call: Call,
-    schedule: &[u8],
+    call: F,
     due: Row,
-) -> Outcome {
-    both(
-        made_on(before, after, call, schedule, due, false),
-        made_on(before, after, call, schedule, due, true),
-    )
+) -> Outcome
+    requires { F.IsAlwaysCallable call }
+{
+    let first = made_on(before, after, &call, due, Lent::State);
+    first.and(made_on(before, after, &call, due, Lent::All))
 }

@@ -1,60 +1,48 @@
 // The lines of the judge: `J image answer place - type`, where answer 0 is accepted.
 use crate::buffers::PATTERN;
-use crate::fields::{field, past_two, rest};
-use crate::reports::{Outcome, outcome_of};
-use crate::verdicts::{Said, read_verdict};
+use crate::fields::{field, numbers, past_two, rest};
+use crate::reports::Outcome;
+use crate::rows::{Row, judge_row};
 use crate::{buffers, due};
-use judging::entry::{Verdict, judge};
-use lines::digits::{Number, bytes};
+use judging::entry::judge;
+use lines::digits::bytes;
 
 // With a type of this size: accepted is at place 0, a refusal gives no type.
-fn sized(said: Said, size: usize) -> Said {
-    let Said::Due(due) = said else {
-        return Said::Nothing;
-    };
-    match due {
-        Verdict::Accepted(place) => {
-            if place == 0 {
-                return Said::Due(Verdict::Accepted(size));
-            }
-        }
-        Verdict::Refused(_, _) => {
-            if size == 0 {
-                return said;
-            }
-        }
+fn sized(answer: usize, place: usize, size: usize) -> Option<Row> {
+    match (answer, place, size) {
+        (0, 0, _) => Some(Row::One(0, size)),
+        (1..=255, _, 0) => Some(Row::One(answer, place)),
+        _ => None,
     }
-    Said::Nothing
 }
 
-// Puts the type's bytes first into types.
-fn read_due(fields: &[u8], types: &mut [u8]) -> Said {
+// The answer that is due. Puts the type's bytes first into types.
+fn read_due(fields: &[u8], types: &mut [u8]) -> Option<Row> {
     let last = past_two(fields);
     if field(last) != b"-".as_slice() {
-        return Said::Nothing;
+        return None;
     }
-    match bytes(rest(last), types) {
-        Number::Is(size) => sized(read_verdict(fields), size),
-        Number::Unreadable => Said::Nothing,
-    }
+    let size = bytes(rest(last), types)?;
+    let [answer, place] = numbers::<2>(fields)?;
+    sized(answer, place, size)
 }
 
 // Lends more than the judge asks for, so that what it may not touch is seen.
-fn judged_on(image: &[u8], due: Verdict, due_types: &[u8]) -> Outcome {
+fn judged_on(image: &[u8], due: Row, due_types: &[u8]) -> Outcome {
     let mut types = [PATTERN; 300];
     let mut work = buffers::work();
-    let verdict = judge(image, &mut types, &mut work);
-    outcome_of(due::as_due(verdict, due, &types, due_types, &work))
+    let row = judge_row(judge(image, &mut types, &mut work));
+    Outcome::from(due::as_due(row, due, &types, due_types, &work))
 }
 
 pub(crate) fn judged(line: &[u8]) -> Outcome {
     let fields = rest(line);
     let mut types = [PATTERN; 300];
-    let Said::Due(due) = read_due(rest(fields), &mut types) else {
+    let Some(due) = read_due(rest(fields), &mut types) else {
         return Outcome::Unreadable;
     };
     let mut image = buffers::image();
-    let Number::Is(n) = bytes(field(fields), &mut image) else {
+    let Some(n) = bytes(field(fields), &mut image) else {
         return Outcome::Unreadable;
     };
     judged_on(due::first(&image, n), due, &types)
@@ -63,11 +51,11 @@ pub(crate) fn judged(line: &[u8]) -> Outcome {
 // Answer 1 of the judge, on the image of a line.
 fn on_short(line: &[u8], types: &mut [u8], work: &mut [u8]) -> Outcome {
     let mut image = buffers::image();
-    let Number::Is(n) = bytes(field(rest(line)), &mut image) else {
+    let Some(n) = bytes(field(rest(line)), &mut image) else {
         return Outcome::Unreadable;
     };
-    let verdict = judge(due::first(&image, n), types, work);
-    outcome_of(due::untouched(verdict, types, work))
+    let row = judge_row(judge(due::first(&image, n), types, work));
+    Outcome::from(due::untouched(row, types, work))
 }
 
 pub(crate) fn with_short_types(line: &[u8]) -> Outcome {

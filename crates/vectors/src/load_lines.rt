@@ -1,62 +1,60 @@
 // The lines of the loads: `L image answer place` (raw) and `C image answer place -` (judged), where answer 0 is loaded.
-use crate::fields::{field, rest};
-use crate::reports::{Outcome, outcome_of};
-use crate::verdicts::{Said, read_verdict};
+use crate::fields::{field, numbers, rest};
+use crate::reports::Outcome;
+use crate::rows::{Row, load_row};
 use crate::{buffers, due};
-use judging::entry::Verdict;
-use lines::digits::{Number, bytes};
-use loads::entry::{Loaded, judged_load, raw_load};
+use lines::digits::bytes;
+use loads::entry::{judged_load, raw_load};
 
-// Loaded is accepted with no type.
-fn verdict_of(loaded: Loaded) -> Verdict {
-    match loaded {
-        Loaded::Done => Verdict::Accepted(0),
-        Loaded::Refused(k, p) => Verdict::Refused(k, p),
+fn read_due(fields: &[u8]) -> Option<Row> {
+    let [answer, place] = numbers::<2>(fields)?;
+    if answer < 256 {
+        Some(Row::One(answer, place))
+    } else {
+        None
     }
 }
 
 // What a load may not touch: all of the buffer at a refusal, else what lies past the state.
-fn kept(due: Verdict, state: &[u8]) -> &[u8] {
+fn kept(due: Row, state: &[u8]) -> &[u8] {
     match due {
-        Verdict::Refused(_, _) => state,
-        Verdict::Accepted(_) => past_state(state),
+        Row::One(0, _) => state.get(due::STATE_BYTES..).unwrap_or(state),
+        _ => state,
     }
 }
 
-fn past_state(state: &[u8]) -> &[u8] {
-    if state.len() < 49408 {
-        return state;
-    }
-    &state[49408..]
-}
-
-fn raw_on(image: &[u8], due: Verdict) -> Outcome {
+fn raw_on(image: &[u8], due: Row) -> Outcome {
     let mut state = buffers::state();
-    let verdict = verdict_of(raw_load(image, &mut state));
-    outcome_of(due::load_as_due(verdict, due, kept(due, &state)))
+    let row = load_row(raw_load(image, &mut state));
+    Outcome::from(due::load_as_due(row, due, kept(due, &state)))
 }
 
-fn judged_on(image: &[u8], due: Verdict) -> Outcome {
+fn judged_on(image: &[u8], due: Row) -> Outcome {
     let mut state = buffers::state();
     let mut work = buffers::work();
-    let verdict = verdict_of(judged_load(image, &mut state, &mut work));
-    if due::cleared(&work, due::WORK_BYTES) {
-        return outcome_of(due::load_as_due(verdict, due, kept(due, &state)));
-    }
-    Outcome::Failed
+    let row = load_row(judged_load(image, &mut state, &mut work));
+    let cleared = due::cleared(&work, due::WORK_BYTES);
+    Outcome::from(cleared && due::load_as_due(row, due, kept(due, &state)))
 }
 
-pub(crate) fn loaded(line: &[u8], judged: bool) -> Outcome {
+fn loaded<F: Fn(&[u8], Row) -> Outcome>(line: &[u8], load_on: F) -> Outcome
+    requires { F.IsAlwaysCallable load_on }
+{
     let fields = rest(line);
-    let Said::Due(due) = read_verdict(rest(fields)) else {
+    let Some(due) = read_due(rest(fields)) else {
         return Outcome::Unreadable;
     };
     let mut image = buffers::image();
-    let Number::Is(n) = bytes(field(fields), &mut image) else {
+    let Some(n) = bytes(field(fields), &mut image) else {
         return Outcome::Unreadable;
     };
-    if judged {
-        return judged_on(due::first(&image, n), due);
-    }
-    raw_on(due::first(&image, n), due)
+    load_on(due::first(&image, n), due)
+}
+
+pub(crate) fn raw_loaded(line: &[u8]) -> Outcome {
+    loaded(line, |image, due| raw_on(image, due))
+}
+
+pub(crate) fn judged_loaded(line: &[u8]) -> Outcome {
+    loaded(line, |image, due| judged_on(image, due))
 }

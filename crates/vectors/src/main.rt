@@ -3,71 +3,52 @@
 // that is run, and at the end how many of each kind were run and how many failed.
 #![tactic(auto)]
 
+mod kinds; // kinds.rt: the kinds of lines
 mod buffers; // buffers.rt: the buffers
-mod due; // due.rt: the comparisons of the judge's and the loads' buffers
 mod fields; // fields.rt: the fields of a line
-mod verdicts; // verdicts.rt: a verdict as two fields
+mod sparse; // sparse.rt: a state as a field
+mod rows; // rows.rt: an answer as the numbers of a line
+mod due; // due.rt: the comparisons
+mod calls; // calls.rt: a call of the machine, and its comparison
 mod judge_lines; // judge_lines.rt: the lines of the judge
 mod load_lines; // load_lines.rt: the lines of the two loads
 mod lister_lines; // lister_lines.rt: the lines of the lister
 mod race_lines; // race_lines.rt: the lines of the race finder
-mod calls; // calls.rt: a call of the machine, and its comparison
 mod step_lines; // step_lines.rt: the lines of the step
 mod run_lines; // run_lines.rt: the lines of the two runs
 mod text_lines; // text_lines.rt: the lines of the trial's text
-mod sparse; // sparse.rt: a state as a field
-mod rows; // rows.rt: an answer as the numbers of a line, and its comparison
 mod reports; // reports.rt: what is printed, and the counts
 
-use lines::cut::{BLANK, LINE_END, before};
-use reports::Outcome;
+use kinds::{Kind, kind_of};
+use lines::cut::{LINE_END, before};
+use reports::{Counts, Outcome};
 use std::io;
 
-// The kinds in the order in which they are counted; 9 is no kind.
-fn kind_of(line: &[u8]) -> usize {
-    let letter = before(line, BLANK);
-    if letter.len() != 1 {
-        return 9;
-    }
-    match letter[0] {
-        b'J' => 0,
-        b'L' => 1,
-        b'C' => 2,
-        b'N' => 3,
-        b'P' => 4,
-        b'T' => 5,
-        b'R' => 6,
-        b'Q' => 7,
-        b'D' => 8,
-        _ => 9,
-    }
-}
-
-fn run(kind: usize, line: &[u8]) -> Outcome {
+fn run(kind: Kind, line: &[u8]) -> Outcome {
     match kind {
-        0 => judge_lines::judged(line),
-        1 => load_lines::loaded(line, false),
-        2 => load_lines::loaded(line, true),
-        3 => lister_lines::listed(line),
-        4 => text_lines::tried(line),
-        5 => step_lines::stepped(line),
-        6 => race_lines::raced(line),
-        7 => run_lines::scheduled(line),
-        8 => run_lines::by_default(line),
-        _ => Outcome::Unreadable,
+        Kind::Judge => judge_lines::judged(line),
+        Kind::RawLoad => load_lines::raw_loaded(line),
+        Kind::JudgedLoad => load_lines::judged_loaded(line),
+        Kind::Lister => lister_lines::listed(line),
+        Kind::Trial => text_lines::tried(line),
+        Kind::Step => step_lines::stepped(line),
+        Kind::Race => race_lines::raced(line),
+        Kind::Run => run_lines::scheduled(line),
+        Kind::DefaultRun => run_lines::by_default(line),
     }
 }
 
-fn one(rt: &impl Print, line: &[u8], number: usize, counts: &mut [usize]) -> io::Result<()> {
-    let kind = kind_of(line);
+fn one(rt: &impl Print, line: &[u8], number: usize, counts: &mut Counts) -> io::Result<()> {
+    let Ok(kind) = kind_of(line) else {
+        return reports::unreadable(rt, number);
+    };
     let outcome = run(kind, line);
-    reports::vector(rt, kind, number, outcome)?;
-    reports::count(counts, kind, outcome);
-    Ok(())
+    counts.add(kind, outcome);
+    reports::vector(rt, kind, number, outcome)
 }
 
 fn run_all(rt: &impl Print, s: &[u8]) -> io::Result<()> {
-    let mut counts = [0usize; 18];
+    let mut counts = Counts::new();
     let mut number = 0;
     let mut at = 0;
     while at < s.len() {
@@ -77,23 +58,21 @@ fn run_all(rt: &impl Print, s: &[u8]) -> io::Result<()> {
         at = at + line.len() + 1;
     }
     short_buffers(rt, before(s, LINE_END))?;
-    reports::summary(rt, &counts)
+    counts.print(rt)
 }
 
 fn short_buffers(rt: &impl Print, line: &[u8]) -> io::Result<()> {
-    reports::short(
-        rt,
-        b"short type buffer",
-        judge_lines::with_short_types(line),
-    )?;
-    reports::short(rt, b"short work buffer", judge_lines::with_short_work(line))
+    let types = judge_lines::with_short_types(line);
+    println!(rt; "short type buffer {types}")?;
+    let work = judge_lines::with_short_work(line);
+    println!(rt; "short work buffer {work}")
 }
 
 fn main(rt: HostRuntime) -> io::Result<()> {
     let mut input = buffers::input();
     let n = intake::fill(&mut rt.stdin(), &mut input)?;
     if n == 1600000 {
-        reports::too_long(&rt)?;
+        println!(&rt; "input too long")?;
     }
     run_all(&rt, &input[..n])
 }

@@ -1,54 +1,33 @@
 // The lines of the race finder: `R state answer i j cell`, or `R state answer -` where there is no pair.
 use crate::fields::{field, numbers, rest};
-use crate::reports::{Outcome, both, outcome_of};
-use crate::rows::Row;
-use crate::{buffers, due, rows, sparse};
-use lines::digits::Number;
+use crate::reports::Outcome;
+use crate::rows::{Row, race_row};
+use crate::sparse::Lent;
+use crate::{buffers, due, sparse};
 use states::race;
 
-// What the fields after the state say: the answer that is due.
-#[derive(Clone, Copy)]
-enum Said {
-    Due(Row),
-    Nothing,
-}
-
-fn read_pair(fields: &[u8]) -> Said {
-    let mut n = [0usize; 4];
-    if numbers(fields, &mut n) {
-        return Said::Due(rows::row_of(n[0], 3, n[1], n[2], n[3]));
-    }
-    Said::Nothing
-}
-
-fn read_none(fields: &[u8]) -> Said {
-    let mut n = [0usize; 1];
-    if numbers(fields, &mut n) {
-        return Said::Due(rows::row_of(n[0], 0, 0, 0, 0));
-    }
-    Said::Nothing
-}
-
-fn read_due(fields: &[u8]) -> Said {
+// The answer that is due.
+fn read_due(fields: &[u8]) -> Option<Row> {
     if rest(fields) == b"-".as_slice() {
-        return read_none(fields);
+        let [answer] = numbers::<1>(fields)?;
+        return Some(Row::Alone(answer));
     }
-    read_pair(fields)
+    let [answer, first, second, cell] = numbers::<4>(fields)?;
+    Some(Row::Three(answer, first, second, cell))
 }
 
-fn race_on(fields: &[u8], due: Row, all: bool) -> Outcome {
+fn race_on(fields: &[u8], due: Row, lent: Lent) -> Outcome {
     let mut state = buffers::state();
-    let Number::Is(length) = sparse::state(field(fields), &mut state) else {
+    let Some(length) = sparse::state(field(fields), &mut state) else {
         return Outcome::Unreadable;
     };
-    let row = rows::race_row(race(due::first(&state, sparse::lent(length, all))));
-    outcome_of(rows::equal(row, due))
+    Outcome::from(race_row(race(due::first(&state, lent.of(length)))) == due)
 }
 
 pub(crate) fn raced(line: &[u8]) -> Outcome {
     let fields = rest(line);
-    let Said::Due(due) = read_due(rest(fields)) else {
+    let Some(due) = read_due(rest(fields)) else {
         return Outcome::Unreadable;
     };
-    both(race_on(fields, due, false), race_on(fields, due, true))
+    race_on(fields, due, Lent::State).and(race_on(fields, due, Lent::All))
 }

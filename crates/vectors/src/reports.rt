@@ -1,141 +1,103 @@
 // What is printed, and the counts by kind.
-use std::io;
+use crate::kinds::{KINDS, Kind};
+use std::{fmt, io};
 
-const KINDS: usize = 9;
-
-#[derive(Clone, Copy)]
+#[derive(Clone, Copy, Debug, PartialEq, Eq)]
 pub(crate) enum Outcome {
     Passed,
     Failed,
     Unreadable,
 }
 
-pub(crate) fn outcome_of(passed: bool) -> Outcome {
-    if passed {
-        Outcome::Passed
-    } else {
-        Outcome::Failed
+impl From<bool> for Outcome {
+    fn from(passed: bool) -> Outcome {
+        if passed {
+            Outcome::Passed
+        } else {
+            Outcome::Failed
+        }
     }
 }
 
-// Two tries of one line: what the first was, unless it passed.
-pub(crate) fn both(first: Outcome, second: Outcome) -> Outcome {
-    match first {
-        Outcome::Passed => second,
-        Outcome::Failed => Outcome::Failed,
-        Outcome::Unreadable => Outcome::Unreadable,
+impl fmt::Display for Outcome {
+    fn fmt<W: fmt::Write>(&self, f: &mut fmt::Formatter<W>) -> fmt::Result {
+        f.write_str(match self {
+            Outcome::Passed => "ok",
+            Outcome::Failed => "FAIL",
+            Outcome::Unreadable => "unreadable",
+        })
     }
 }
 
-// Stops at a million, which no input reaches: every number fits.
+impl Outcome {
+    // Two tries of one line: what the first was, unless it passed.
+    pub(crate) fn and(self, second: Outcome) -> Outcome {
+        match self {
+            Outcome::Passed => second,
+            Outcome::Failed | Outcome::Unreadable => self,
+        }
+    }
+}
+
+// Stops at a million.
 pub(crate) fn more(n: usize) -> usize {
-    if n < 1000000 { n + 1 } else { n }
+    n.saturating_add(1).min(1000000)
 }
 
-// Where a kind is counted, by which: 0 run, 1 failed. Past all counts where there is no such kind.
-fn place(which: usize, kind: usize) -> usize {
-    if which < 2 {
-        if kind < KINDS {
-            return KINDS * which + kind;
+// How many vectors of a kind were run, and how many of them failed.
+#[derive(Clone, Copy, Debug)]
+struct Count {
+    run: usize,
+    failed: usize,
+}
+
+pub(crate) struct Counts {
+    of: [Count; 9],
+}
+
+impl Counts {
+    pub(crate) fn new() -> Counts {
+        Counts {
+            of: [Count { run: 0, failed: 0 }; 9],
         }
     }
-    2 * KINDS
-}
 
-fn add(counts: &mut [usize], which: usize, kind: usize) {
-    let k = place(which, kind);
-    if k < counts.len() {
-        counts[k] = more(counts[k]);
-    }
-}
-
-pub(crate) fn count(counts: &mut [usize], kind: usize, outcome: Outcome) {
-    match outcome {
-        Outcome::Passed => add(counts, 0, kind),
-        Outcome::Failed => {
-            add(counts, 0, kind);
-            add(counts, 1, kind);
+    pub(crate) fn add(&mut self, kind: Kind, outcome: Outcome) {
+        let count = &mut self.of[kind as usize];
+        match outcome {
+            Outcome::Passed => count.run = more(count.run),
+            Outcome::Failed => {
+                count.run = more(count.run);
+                count.failed = more(count.failed);
+            }
+            Outcome::Unreadable => {}
         }
-        Outcome::Unreadable => {}
+    }
+
+    // A line for each kind that was run.
+    pub(crate) fn print(&self, rt: &impl Print) -> io::Result<()> {
+        for kind in KINDS {
+            let Count { run, failed } = self.of[kind as usize];
+            if 0 < run {
+                println!(rt; "{run} {kind} run, {failed} failed")?;
+            }
+        }
+        Ok(())
     }
 }
 
-fn print(rt: &impl Print, text: &[u8]) -> io::Result<()> {
-    rt.write_all(text)
-}
-
-fn print_kind(rt: &impl Print, kind: usize) -> io::Result<()> {
-    let letters: &[u8] = b"JLCNPTRQD";
-    if kind < letters.len() {
-        return print(rt, &letters[kind..kind + 1]);
-    }
-    Ok(())
-}
-
-fn print_vector(rt: &impl Print, kind: usize, number: usize, verdict: &[u8]) -> io::Result<()> {
-    print_kind(rt, kind)?;
-    print(rt, b" ")?;
-    rt.print(number)?;
-    print(rt, verdict)
-}
-
-fn print_unreadable(rt: &impl Print, number: usize) -> io::Result<()> {
-    print(rt, b"line ")?;
-    rt.print(number)?;
-    print(rt, b" unreadable\n")
+pub(crate) fn unreadable(rt: &impl Print, number: usize) -> io::Result<()> {
+    println!(rt; "line {number} unreadable")
 }
 
 pub(crate) fn vector(
     rt: &impl Print,
-    kind: usize,
+    kind: Kind,
     number: usize,
     outcome: Outcome,
 ) -> io::Result<()> {
     match outcome {
-        Outcome::Passed => print_vector(rt, kind, number, b" ok\n"),
-        Outcome::Failed => print_vector(rt, kind, number, b" FAIL\n"),
-        Outcome::Unreadable => print_unreadable(rt, number),
+        Outcome::Passed | Outcome::Failed => println!(rt; "{kind} {number} {outcome}"),
+        Outcome::Unreadable => unreadable(rt, number),
     }
-}
-
-pub(crate) fn too_long(rt: &impl Print) -> io::Result<()> {
-    print(rt, b"input too long\n")
-}
-
-pub(crate) fn short(rt: &impl Print, what: &[u8], outcome: Outcome) -> io::Result<()> {
-    print(rt, what)?;
-    match outcome {
-        Outcome::Passed => print(rt, b" ok\n"),
-        Outcome::Failed => print(rt, b" FAIL\n"),
-        Outcome::Unreadable => print(rt, b" unreadable\n"),
-    }
-}
-
-fn count_of(counts: &[usize], which: usize, kind: usize) -> usize {
-    let k = place(which, kind);
-    if k < counts.len() { counts[k] } else { 0 }
-}
-
-fn print_run(rt: &impl Print, kind: usize, done: usize, failed: usize) -> io::Result<()> {
-    if 0 < done {
-        rt.print(done)?;
-        print(rt, b" ")?;
-        print_kind(rt, kind)?;
-        print(rt, b" run, ")?;
-        rt.print(failed)?;
-        print(rt, b" failed\n")?;
-    }
-    Ok(())
-}
-
-pub(crate) fn summary(rt: &impl Print, counts: &[usize]) -> io::Result<()> {
-    for kind in 0..KINDS {
-        print_run(
-            rt,
-            kind,
-            count_of(counts, 0, kind),
-            count_of(counts, 1, kind),
-        )?;
-    }
-    Ok(())
 }

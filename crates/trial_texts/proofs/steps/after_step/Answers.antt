@@ -1,11 +1,15 @@
 -- `after_step` meets its contract: the ways of the race finder.
-use Rattle.trial_texts.specs.StepText.{races_between, races_none}
-use Rattle.trial_texts.proofs.steps.Tags.{not_between}
-use borrow.Author.Rules.{rules}
+use mathlib.Core.Path.{ap, subst, ◌∙◌}
+use Rattle.std.specs.Prelude.{Ok}
+use Rattle.states.specs.RaceIs.{Raced}
+use Rattle.trial_texts.specs.StepText.{races_between, races_none, none_found, unfit}
 use Rattle.trial_texts.proofs.steps.after_step.Goals as goal
 
-pub returns-in_default : goal.returns-in_default
-returns-in_default c = races_none c.race.ensures c.requires (not_between c.race.result (search rules))
+pub returns-in-Ok-Some : goal.returns-in-Ok-Some
+returns-in-Ok-Some c = races_between c.requires (subst (Raced c.args.state.now) (c.in-Ok-Some.is ∙ ap Ok c.in-Ok-Some.field-0-is) c.race.ensures) c.race_line-end.ensures
 
-pub returns : goal.returns
-returns c = races_between c.race.ensures c.requires c.in-Between.is c.race_line-end.ensures
+pub returns-in-Ok-None : goal.returns-in-Ok-None
+returns-in-Ok-None c = races_none (subst (Raced c.args.state.now) (c.in-Ok-None.is ∙ ap Ok c.in-Ok-None.field-0-is) c.race.ensures) none_found c.requires
+
+pub returns-in-Err : goal.returns-in-Err
+returns-in-Err c = races_none (subst (Raced c.args.state.now) c.in-Err.is c.race.ensures) unfit c.requires
