@@ -23,7 +23,10 @@ pub(crate) fn filled(s: &[u8], b: u8) -> bool
 pub(crate) fn cleared(buffer: &[u8], size: usize) -> bool
     ensures { Exactly result (Cleared size buffer.now) }
 {
-    size <= buffer.len() && filled(&buffer[..size], 0) && filled(&buffer[size..], PATTERN)
+    if buffer.len() < size {
+        return false;
+    }
+    filled(&buffer[..size], 0) && filled(&buffer[size..], PATTERN)
 }
 
 pub(crate) fn as_due(row: Row, due: Row, types: &[u8], expected: &[u8], work: &[u8]) -> bool

@@ -51,6 +51,7 @@ struct Count {
     failed: usize,
 }
 
+#[derive(Clone, Copy, Debug)]
 pub(crate) struct Counts {
     of: [Count; 9],
 }
@@ -76,8 +77,10 @@ impl Counts {
 
     // A line for each kind that was run.
     pub(crate) fn print(&self, rt: &impl Print) -> io::Result<()> {
-        for kind in KINDS {
-            let Count { run, failed } = self.of[kind as usize];
+        let kinds = KINDS;
+        for kind in &kinds {
+            let run = self.of[*kind as usize].run;
+            let failed = self.of[*kind as usize].failed;
             if 0 < run {
                 println!(rt; "{run} {kind} run, {failed} failed")?;
             }

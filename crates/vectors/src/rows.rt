@@ -5,9 +5,10 @@ ghost use Rattle.vectors.specs.Rows.{RowAsDue};
 use judging::entry::Verdict;
 use loads::entry::Loaded;
 use lister::Item;
+use answers::Refusal;
 use machine::run::Ran;
-use machine::step::Step;
-use machine::default_run::DefaultRun;
+use machine::answer::{Made, NoStep};
+
 use states::Unfit;
 use states::races::Pair;
 use texts::entry::Text;
@@ -23,10 +24,10 @@ pub(crate) enum Row {
 
 pub(crate) fn judge_row(r: Verdict) -> Row { match r { Verdict::Accepted(n) => Row::One(0, n), Verdict::Refused(k, p) => Row::One(k as usize, p) } }
 pub(crate) fn load_row(r: Loaded) -> Row { match r { Loaded::Done => Row::One(0, 0), Loaded::Refused(k, p) => Row::One(k as usize, p) } }
-pub(crate) fn step_row(r: Step) -> Row { Row::Alone(0) }
+pub(crate) fn step_row(r: Result<Made, NoStep>) -> Row { Row::Alone(0) }
 pub(crate) fn run_row(r: Ran) -> Row { Row::Alone(0) }
-pub(crate) fn default_row(r: DefaultRun) -> Row { Row::Alone(0) }
-pub(crate) fn item_row(r: Item) -> Row { Row::Alone(0) }
+pub(crate) fn default_row(r: Result<u64, Unfit>) -> Row { Row::Alone(0) }
+pub(crate) fn item_row(r: Result<Option<Item>, Refusal>) -> Row { Row::Alone(0) }
 pub(crate) fn text_row(r: Text) -> Row { Row::Alone(0) }
 pub(crate) fn race_row(r: Result<Option<Pair>, Unfit>) -> Row { Row::Alone(0) }
 
