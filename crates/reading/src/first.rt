@@ -4,6 +4,8 @@ ghost use Rattle.std.specs.Prelude.{◌≡◌};
 ghost use Rattle.answers.specs.Said.{said};
 ghost use Rattle.types.specs.Told.{told};
 ghost use Rattle.paper.specs.Reading.{word, index, read_exp};
+ghost use Rattle.codes.specs.Codes.{exp_byte};
+ghost use Rattle.reading.specs.Walk.{parts};
 ghost use Rattle.reading.specs.Contract.{Due, Led};
 
 use crate::scope::Scope;
@@ -64,6 +66,19 @@ fn lead_cell(s: &[u8], at: usize, under: Scope) -> Result<Lead, Refusal>
     Ok(Lead::Last(q, under.part()))
 }
 
+// Two parts and no field: apply, write, section, then and add; and let, whose second part is under one variable more.
+#[cycle(leads)]
+fn lead_two(s: &[u8], at: usize, code: ExpCode, under: Scope) -> Result<Lead, Refusal>
+    requires { Due s.now at (exp_byte code) under × (parts (exp_byte code) ≡ 2) }
+    ensures { Led s.now at under result }
+{
+    let p = read_exp(s, at + 1, under.part())?;
+    match code {
+        ExpCode::Let => Ok(Lead::Last(p, under.body())),
+        _ => Ok(Lead::Last(p, under.part())),
+    }
+}
+
 // An if: the result's type, then three parts.
 #[cycle(leads)]
 fn lead_if(s: &[u8], at: usize, under: Scope) -> Result<Lead, Refusal>
@@ -105,10 +120,12 @@ fn read_lead(s: &[u8], at: usize, under: Scope) -> Result<Lead, Refusal>
             }
         }
         ExpCode::If => lead_if(s, at, under),
-        ExpCode::Let => Ok(Lead::Last(read_exp(s, at + 1, under.part())?, under.body())),
-        ExpCode::Apply | ExpCode::Write | ExpCode::Section | ExpCode::Then | ExpCode::Add => {
-            Ok(Lead::Last(read_exp(s, at + 1, under.part())?, under.part()))
-        }
+        ExpCode::Apply
+        | ExpCode::Write
+        | ExpCode::Section
+        | ExpCode::Let
+        | ExpCode::Then
+        | ExpCode::Add => { lead_two(s, at, code, under) }
     }
 }
 

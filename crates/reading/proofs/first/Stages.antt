@@ -1,7 +1,7 @@
 -- The ways out of the functions that read an expression up to its last part: each takes what is told of the whole (`With`, Laws), and why.
 use mathlib.Core.Path.{◌≡◌, refl, ap, sym, ◌∙◌}
 use mathlib.Core.List.{List}
-use Prim.Native.Nat.{ℕ, ◌+◌, ◌-◌, ◌≤◌, ◌<◌}
+use Prim.Native.Nat.{ℕ, ◌-◌, ◌≤◌, ◌<◌}
 use native.Mathlib.Omega.{arith}
 use lib.Dec.{lit≤}
 use lib.ListN.{length, get_or}
@@ -12,7 +12,6 @@ use Rattle.paper.specs.Verdict.{Out, ok, refused}
 use Rattle.answers.specs.declared.Refusal.{Refusal}
 use Rattle.answers.specs.declared.Refusal.TheVariants.{NoSuchCode, CutImage, OverLimit}
 use Rattle.answers.specs.Numbers.{number, place}
-use Rattle.answers.specs.Said.{said}
 use Rattle.codes.specs.declared.ExpCode.{ExpCode}
 use Rattle.codes.specs.declared.ExpCode.TheVariants as code
 use Rattle.codes.specs.Codes.{exp_byte}
@@ -54,7 +53,7 @@ in_codes code.Then = (lit≤ tt, lit≤ tt)
 in_codes code.Add = (lit≤ tt, lit≤ tt)
 in_codes code.If = (lit≤ tt, lit≤ tt)
 
--- what is read of a part, which stands under a and b, with c left
+-- what is read of a part, which stands under a variables and b locks, with c left
 pub part_back : (s : List ℕ) (p : ℕ) {r : Out ℕ} {a b c v n d : ℕ} → (a ≡ v) × (b ≡ n) × (c ≡ d) → r ≡ told (read_exp 1 c s b a p) → r ≡ told (exp_at d v n s p)
 part_back s p h e = rw (h.0, h.1, h.2) at (exp_back s p _ _ _ e)
 

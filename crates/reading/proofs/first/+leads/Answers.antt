@@ -3,13 +3,14 @@
 -- and each arm of the match has the law of its code.
 use mathlib.Core.Path.{◌≡◌, refl, sym, ◌∙◌, ap}
 use native.Mathlib.Omega.{arith}
+use native.Mathlib.Nat.{add-zero}
 use Rattle.std.proofs.Common.{rules}
 use Rattle.std.specs.Prelude.{Err}
 use Rattle.answers.specs.Said.{said}
 use Rattle.codes.specs.declared.ExpCode.TheVariants as code
 use Rattle.types.proofs.stated.Laws.{on_refused, on_next}
 use Rattle.types.proofs.stated.Agree.{stated_back}
-use Rattle.reading.proofs.first.Laws.{unit_with, number_with, variable_with, one_with, lock_with, lock_over, if_with, let_with, two_with}
+use Rattle.reading.proofs.first.Laws.{unit_with, number_with, variable_with, one_with, lock_with, lock_over, if_with, two_with, parts_two, let_binds, other_binds}
 use Rattle.reading.proofs.first.Agree.{number_back, index_back}
 use Rattle.reading.proofs.first.Stages.{led_ended, led_other, led_deep, led_wrong, led_whole, led_last, due, due_at, part_back}
 use Rattle.reading.proofs.first.+leads.Goals as goal
@@ -70,33 +71,28 @@ read_lead-returns-then-under-lt32 t c =
 pub read_lead-returns-else-under-lt32 : goal.read_lead-returns-else-under-lt32
 read_lead-returns-else-under-lt32 t c = led_wrong _ _ _ (due _ _ _ c.if-s-at.false code.NewLock c.in-Ok.ensures c.in-NewLock.is c.if-under-eq0.false) (lock_over _ _ _ _ _ c.if-under-lt32.false) refl
 
-pub read_lead-returns-in_err-read_exp-in-Let : goal.read_lead-returns-in_err-read_exp-in-Let
-read_lead-returns-in_err-read_exp-in-Let t c =
-    let q : c.from_residual-in_err-read_exp-in-Let.result ≡ Err c.in_err-read_exp-in-Let.field-0.0 = search rules in
+pub read_lead-lead_two-requires : goal.read_lead-lead_two-requires
+read_lead-lead_two-requires t c = (omega arith, (due_at _ _ _ c.if-s-at.false _ c.in-Ok.ensures c.if-under-eq0.false, parts_two _ c.in-Apply.is))
+
+pub lead_two-returns-in_err-p : goal.lead_two-returns-in_err-p
+lead_two-returns-in_err-p t c =
+    let q : c.from_residual.result ≡ Err c.in_err-p.field-0.0 = search rules in
     rw q (
-      led_wrong _ _ _ (due _ _ _ c.if-s-at.false code.Let c.in-Ok.ensures c.in-Let.is c.if-under-eq0.false) (let_with _ _ _ _ _)
-      (on_refused _ (part_back _ _ c.part-in-Let.ensures c.read_exp.ensures) (ap said c.in_err-read_exp-in-Let.was))
+    led_wrong _ _ _ c.requires.0 (two_with _ _ _ _ _ _ c.requires.1)
+    (on_refused _ (part_back _ _ c.part.ensures c.read_exp.ensures) (ap said c.in_err-p.was))
     )
 
-pub read_lead-returns-in_ok-read_exp-in-Let : goal.read_lead-returns-in_ok-read_exp-in-Let
-read_lead-returns-in_ok-read_exp-in-Let t c =
-    led_last _ _ _ (due _ _ _ c.if-s-at.false code.Let c.in-Ok.ensures c.in-Let.is c.if-under-eq0.false) (let_with _ _ _ _ _)
-    (on_next _ (part_back _ _ c.part-in-Let.ensures c.read_exp.ensures) (ap said c.in_ok-read_exp-in-Let.was) refl)
+pub lead_two-returns-in-Let : goal.lead_two-returns-in-Let
+lead_two-returns-in-Let t c =
+    led_last _ _ _ c.requires.0 (two_with _ _ _ _ _ _ c.requires.1)
+    (on_next _ (part_back _ _ c.part.ensures c.read_exp.ensures) (ap said c.in_ok-p.was) (rw (let_binds _ c.in-Let.is)))
     c.body.ensures
 
-pub read_lead-returns-in_err-read_exp-in-Apply : goal.read_lead-returns-in_err-read_exp-in-Apply
-read_lead-returns-in_err-read_exp-in-Apply t c =
-    let q : c.from_residual-in_err-read_exp-in-Apply.result ≡ Err c.in_err-read_exp-in-Apply.field-0.0 = search rules in
-    rw q (
-      led_wrong _ _ _ (due_at _ _ _ c.if-s-at.false _ c.in-Ok.ensures c.if-under-eq0.false) (two_with _ _ _ _ _ _ c.in-Apply.is)
-      (on_refused _ (part_back _ _ c.part-in-Apply.ensures c.read_exp-in-Apply.ensures) (ap said c.in_err-read_exp-in-Apply.was))
-    )
-
-pub read_lead-returns-in_ok-read_exp-in-Apply : goal.read_lead-returns-in_ok-read_exp-in-Apply
-read_lead-returns-in_ok-read_exp-in-Apply t c =
-    led_last _ _ _ (due_at _ _ _ c.if-s-at.false _ c.in-Ok.ensures c.if-under-eq0.false) (two_with _ _ _ _ _ _ c.in-Apply.is)
-    (on_next _ (part_back _ _ c.part-in-Apply.ensures c.read_exp-in-Apply.ensures) (ap said c.in_ok-read_exp-in-Apply.was) refl)
-    c.part-in-Apply-2.ensures
+pub lead_two-returns-in_default : goal.lead_two-returns-in_default
+lead_two-returns-in_default t c =
+    led_last _ _ _ c.requires.0 (two_with _ _ _ _ _ _ c.requires.1)
+    (on_next _ (part_back _ _ c.part.ensures c.read_exp.ensures) (ap said c.in_ok-p.was) (rw (other_binds _ c.in_default.not-Let, add-zero)))
+    c.part-in_default.ensures
 
 pub lead_if-returns-in_err-p : goal.lead_if-returns-in_err-p
 lead_if-returns-in_err-p t c =
@@ -107,19 +103,19 @@ pub lead_if-returns-in_err-q : goal.lead_if-returns-in_err-q
 lead_if-returns-in_err-q t c =
     let q : c.from_residual-in_err-q.result ≡ Err c.in_err-q.field-0.0 = search rules in
     rw q (
-      led_wrong _ _ _ c.requires (if_with _ _ _ _ _)
-      (on_next _ (stated_back _ _ _ c.read_stated.ensures) (ap said c.in_ok-p.was)
-      (on_refused _ (part_back _ _ c.part.ensures c.read_exp.ensures) (ap said c.in_err-q.was)))
+    led_wrong _ _ _ c.requires (if_with _ _ _ _ _)
+    (on_next _ (stated_back _ _ _ c.read_stated.ensures) (ap said c.in_ok-p.was)
+    (on_refused _ (part_back _ _ c.part.ensures c.read_exp.ensures) (ap said c.in_err-q.was)))
     )
 
 pub lead_if-returns-in_err-r : goal.lead_if-returns-in_err-r
 lead_if-returns-in_err-r t c =
     let q : c.from_residual-in_err-r.result ≡ Err c.in_err-r.field-0.0 = search rules in
     rw q (
-      led_wrong _ _ _ c.requires (if_with _ _ _ _ _)
-      (on_next _ (stated_back _ _ _ c.read_stated.ensures) (ap said c.in_ok-p.was)
-      (on_next _ (part_back _ _ c.part.ensures c.read_exp.ensures) (ap said c.in_ok-q.was)
-      (on_refused _ (part_back _ _ c.part-2.ensures c.read_exp-2.ensures) (ap said c.in_err-r.was))))
+    led_wrong _ _ _ c.requires (if_with _ _ _ _ _)
+    (on_next _ (stated_back _ _ _ c.read_stated.ensures) (ap said c.in_ok-p.was)
+    (on_next _ (part_back _ _ c.part.ensures c.read_exp.ensures) (ap said c.in_ok-q.was)
+    (on_refused _ (part_back _ _ c.part-2.ensures c.read_exp-2.ensures) (ap said c.in_err-r.was))))
     )
 
 pub lead_if-returns : goal.lead_if-returns

@@ -19,3 +19,6 @@ decreases-read_exp l = 3 * l.under.left + 2
 
 abbrev pub decreases-read_lead : goal.decreases-read_lead
 decreases-read_lead l = 3 * l.under.left + 1
+
+abbrev pub decreases-lead_two : goal.decreases-lead_two
+decreases-lead_two l = 3 * l.under.left

@@ -18,9 +18,9 @@ pub returns-in_err-q : goal.returns-in_err-q
 returns-in_err-q c =
     let q : c.from_residual-in_err-q.result ≡ Err c.in_err-q.field-0.0 = search rules in
     rw q (
-      led_wrong _ _ _ c.requires (function_with _ _ _ _ _)
-      (on_next _ (stated_back _ _ _ c.read_stated.ensures) (ap said c.in_ok-p.was)
-      (on_refused _ (set_back _ _ _ c.read_set.ensures) (ap said c.in_err-q.was)))
+    led_wrong _ _ _ c.requires (function_with _ _ _ _ _)
+    (on_next _ (stated_back _ _ _ c.read_stated.ensures) (ap said c.in_ok-p.was)
+    (on_refused _ (set_back _ _ _ c.read_set.ensures) (ap said c.in_err-q.was)))
     )
 
 pub returns : goal.returns

@@ -32,9 +32,9 @@ returns-in_err-p c =
     let a = c.args in
     let q : c.from_residual.result ≡ Err c.in_err-p.field-0.0 = search rules in
     rw q (
-      image_refused a.s.now c.if-s-lt3.false c.if-s-gt4096.false
-      (omega (arith, c.if-follow-s.false, c.from-follow.ensures, c.from_be_bytes.ensures))
-      c.if-s-ne1.false _ c.read_exp.ensures _ c.in_err-p.was
+    image_refused a.s.now c.if-s-lt3.false c.if-s-gt4096.false
+    (omega (arith, c.if-follow-s.false, c.from-follow.ensures, c.from_be_bytes.ensures))
+    c.if-s-ne1.false _ c.read_exp.ensures _ c.in_err-p.was
     )
 
 pub returns-then-p-s : goal.returns-then-p-s
