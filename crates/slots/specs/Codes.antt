@@ -300,3 +300,19 @@ module _ (c : ℕ) where
 
   pub entry_widths : c ≤ 18 → entry_of (pack 3 width_table) 3 c ≡ field_of c + 1
   entry_widths h = entry_here _ 3 c h ∙ packed_widths c h
+
+  -- as the look-ups tell them
+  pub told_kids : Told (kids_of c) 3 (entry_of (pack 2 kid_table) 2 c)
+  told_kids = record { says = entry_kids; small = omega (arith, entry_kids, kids≤ c) }
+
+  pub told_bind1 : Told (bind1 c) 1 (entry_of (pack 1 bind1_table) 1 c)
+  told_bind1 = record { says = entry_bind1; small = omega (arith, entry_bind1, bind1≤ c) }
+
+  pub told_bind2 : Told (bind2 c) 1 (entry_of (pack 1 bind2_table) 1 c)
+  told_bind2 = record { says = entry_bind2; small = omega (arith, entry_bind2, bind2≤ c) }
+
+  pub told_width : c ≤ 18 → Told (field_of c + 1) 5 (entry_of (pack 3 width_table) 3 c)
+  told_width h = let e = entry_widths h in record { says = e; small = omega (arith, e, fields≤ c) }
+
+  pub told_width_past : 18 < c → Told (field_of c + 1) 5 1
+  told_width_past h = let e = past_fields c h in record { says = omega arith; small = omega arith }

@@ -1,8 +1,6 @@
 -- Passing over an expression: codes are read in prefix order, and each says how many bytes of its own and how many expressions follow. The
 -- function of bytes `walk` goes byte by byte; the code goes from code to code, which the laws say is the same.
-use Rattle.std.specs.Prelude.{◌≡◌, refl, Bool, true, false, List, [], ◌∷◌, ℕ, zero, suc, ◌+◌, ◌-◌, ◌*◌, ◌<◌, ◌≤◌, length, get_or, drop, leb, Some, None, IfSome, eqb}
-use Rattle.std.specs.Bool.{then_some}
-use borrow.Author.Tests.{eqb-true, eqb-false}
+use Rattle.std.specs.Prelude.{◌≡◌, refl, Bool, true, false, List, [], ◌∷◌, ℕ, zero, suc, ◌+◌, ◌-◌, ◌*◌, ◌<◌, ◌≤◌, length, get_or, drop, leb, Some, None, IfSome}
 use Rattle.std.proofs.Common.{sym, ap, ◌∙◌, add-zero, arith, drop_of_length-le, length-drop, drop-cons, drop-drop, leb-true, leb-false}
 use Rattle.slots.specs.Codes.{is_code, kids_of, field_of, kids≤}
 use Rattle.slots.specs.Found.{Answer, found, found_at, found_some, found_none}
@@ -186,13 +184,6 @@ module _ {s : List ℕ} {at i need : ℕ} (l : Skipping s at i need) where
 
   pub skipping_end : length s ≤ i → 0 < need → Skipped s at None
   skipping_end h p = unanswered s at (sym (walk_end s i need h p) ∙ l.same)
-
-  pub skipping_last : length s ≤ i → Skipped s at (then_some (eqb need 0) i)
-  skipping_last h = go (eqb need 0) refl
-    where
-      go : (b : Bool) → eqb need 0 ≡ b → Skipped s at (then_some b i)
-      go true e = skipping_over (eqb-true need 0 e)
-      go false e = skipping_end h (omega (arith, eqb-false need 0 e))
 
   module _ (h : i < length s) (p : 0 < need) where
     pub skipping_bad : is_code (get_or s i 0) ≡ false → Skipped s at None

@@ -4,37 +4,40 @@ ghost use Rattle.slots.specs.Found.{one_more};
 ghost use Rattle.slots.specs.Closed.{field_ok, closed_count, Closed};
 
 use crate::codes::{CELL, LOCK, OPEN, VARIABLE, byte, fields, is_code, opening};
+use crate::sections::Counts;
 use crate::stack::{Part, after, pushes};
 use zeros::clear;
 
 // Whether b can stand after the code c: a variable is bound, a lock and a cell are below their counts.
 #[tactic(auto, unfolding(crate::specs::Closed::field_ok))]
-fn field_ok(nl: usize, nc: usize, c: u8, b: usize, d: usize) -> bool
-    ensures { result ≡ field_ok nl nc c b d }
+fn field_ok(counts: Counts, c: u8, b: usize, d: usize) -> bool
+    ensures { result ≡ field_ok counts.locks counts.cells c b d }
 {
     match c {
         VARIABLE => b < d,
-        LOCK | OPEN => b < nl,
-        CELL => b < nc,
+        LOCK | OPEN => b < counts.locks,
+        CELL => b < counts.cells,
         _ => true,
     }
 }
 
 // How many open sections the closed expression has that the bytes are, if they are one, with locations below the counts.
-fn pass(s: &[u8], nl: usize, nc: usize, stack: &mut [u8]) -> Option<usize>
+fn pass(s: &[u8], counts: Counts, stack: &mut [u8]) -> Option<usize>
     requires { length stack.old ≡ length s.now }
-    ensures { one_more result ≡ closed_count nl nc s.now }
+    ensures { one_more result ≡ closed_count counts.locks counts.cells s.now }
 {
     let mut next = Some(Part { d: 0, sp: 0 });
     let mut n: usize = 0;
     let mut i: usize = 0;
-    while i < s.len() {
-        let part = next?;
+    while let Some(part) = next {
+        if s.len() <= i {
+            return None;
+        }
         let c = s[i];
         if !is_code(c) {
             return None;
         }
-        if !field_ok(nl, nc, c, usize::from(byte(s, i + 1)), part.d) {
+        if !field_ok(counts, c, usize::from(byte(s, i + 1)), part.d) {
             return None;
         }
         let w = fields(c);
@@ -48,21 +51,21 @@ fn pass(s: &[u8], nl: usize, nc: usize, stack: &mut [u8]) -> Option<usize>
         next = after(stack, part, c);
         i += w + 1;
     }
-    match next {
-        None => Some(n),
-        Some(_) => None,
+    if i < s.len() {
+        return None;
     }
+    Some(n)
 }
 
 // The same on a stack that may be longer, which is left with zeros where it was used; None where it is shorter than the slot.
-pub(crate) fn closed(s: &[u8], nl: usize, nc: usize, stack: &mut [u8]) -> Option<usize>
-    ensures { Closed nl nc s.now stack.old stack.new (one_more result) }
+pub(crate) fn closed(s: &[u8], counts: Counts, stack: &mut [u8]) -> Option<usize>
+    ensures { Closed counts.locks counts.cells s.now stack.old stack.new (one_more result) }
 {
     let n = s.len();
     if stack.len() < n {
         return None;
     }
-    let r = pass(s, nl, nc, &mut stack[..n]);
+    let r = pass(s, counts, &mut stack[..n]);
     clear(&mut stack[..n]);
     r
 }

@@ -54,6 +54,7 @@ pub(crate) fn is_code(c: u8) -> bool
 }
 
 // How many parts.
+#[tactic(auto, using(crate::specs::Codes::told_kids))]
 pub(crate) fn kids(c: u8) -> usize
     ensures { Told (kids_of c) 3 result }
 {
@@ -61,6 +62,7 @@ pub(crate) fn kids(c: u8) -> usize
 }
 
 // How many bytes it takes with those of its own between it and its parts. A walk goes on by this, so it is the one that has the table.
+#[tactic(auto, using(crate::specs::Codes::told_width, crate::specs::Codes::told_width_past))]
 pub(crate) fn width(c: u8) -> usize
     ensures { Told (field_of c + 1) 5 result }
 {
@@ -78,6 +80,7 @@ pub(crate) fn fields(c: u8) -> usize
 }
 
 // 1 where its first part stands under a binder of it, else 0.
+#[tactic(auto, using(crate::specs::Codes::told_bind1))]
 pub(crate) fn binds1(c: u8) -> usize
     ensures { Told (bind1 c) 1 result }
 {
@@ -85,6 +88,7 @@ pub(crate) fn binds1(c: u8) -> usize
 }
 
 // 1 where its second part stands under a binder of it, else 0.
+#[tactic(auto, using(crate::specs::Codes::told_bind2))]
 pub(crate) fn binds2(c: u8) -> usize
     ensures { Told (bind2 c) 1 result }
 {
@@ -92,6 +96,7 @@ pub(crate) fn binds2(c: u8) -> usize
 }
 
 // Whether evaluation goes into its first part.
+#[tactic(auto, using(crate::specs::Codes::entry_goes1))]
 pub(crate) fn goes_first(c: u8) -> bool
     ensures { result ≡ goes1 c }
 {
@@ -99,6 +104,7 @@ pub(crate) fn goes_first(c: u8) -> bool
 }
 
 // Whether evaluation goes into its second part, once the first is a value.
+#[tactic(auto, using(crate::specs::Codes::entry_goes2))]
 pub(crate) fn goes_second(c: u8) -> bool
     ensures { result ≡ goes2 c }
 {
@@ -106,6 +112,7 @@ pub(crate) fn goes_second(c: u8) -> bool
 }
 
 // Whether an expression with this code is a value.
+#[tactic(auto, using(crate::specs::Codes::entry_value))]
 pub fn value(c: u8) -> bool
     ensures { result ≡ is_value c }
 {
@@ -124,5 +131,5 @@ pub(crate) fn opening(c: u8) -> usize
 pub(crate) fn byte(s: &[u8], i: usize) -> u8
     ensures { result ≡ get_or s.now i 0 }
 {
-    if i < s.len() { s[i] } else { 0 }
+    s.get(i).copied().unwrap_or(0)
 }

@@ -9,6 +9,13 @@ use crate::closed::closed;
 use crate::codes::{OPEN, byte, value};
 use crate::way::onward;
 
+// How many locks and cells there are: a location is below its count.
+#[derive(Clone, Copy)]
+pub struct Counts {
+    pub locks: usize,
+    pub cells: usize,
+}
+
 // How many open sections stand at p, one or none, which takes its lock's mark away; None where that mark is not there.
 fn claim(s: &[u8], p: usize, marks: &mut [u8]) -> Option<usize>
     requires { p ≤ length s.now }
@@ -44,20 +51,20 @@ fn open_sections(s: &[u8], marks: &mut [u8]) -> Option<usize>
 
 // Whether s is one closed expression with locations below the counts and open sections only where evaluation goes, each with its lock's
 // mark, which it takes away. The lent stack is as long as a slot may be.
-pub fn thread_slot(s: &[u8], nl: usize, nc: usize, marks: &mut [u8], stack: &mut [u8]) -> bool
-    ensures { ThreadSlot nl nc s.now marks.old marks.new stack.old stack.new result }
+pub fn thread_slot(s: &[u8], counts: Counts, marks: &mut [u8], stack: &mut [u8]) -> bool
+    ensures { ThreadSlot counts.locks counts.cells s.now marks.old marks.new stack.old stack.new result }
 {
-    let Some(n) = closed(s, nl, nc, stack) else {
+    let Some(n) = closed(s, counts, stack) else {
         return false;
     };
     open_sections(s, marks) == Some(n)
 }
 
 // Whether s is one closed value with locations below the counts and no open section. The lent stack is as long as a slot may be.
-pub fn cell_slot(s: &[u8], nl: usize, nc: usize, stack: &mut [u8]) -> bool
-    ensures { CellSlot nl nc s.now stack.old stack.new result }
+pub fn cell_slot(s: &[u8], counts: Counts, stack: &mut [u8]) -> bool
+    ensures { CellSlot counts.locks counts.cells s.now stack.old stack.new result }
 {
-    if closed(s, nl, nc, stack) != Some(0) {
+    if closed(s, counts, stack) != Some(0) {
         return false;
     }
     if s.is_empty() {

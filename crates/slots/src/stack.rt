@@ -60,13 +60,16 @@ pub(crate) fn ended(stack: &mut [u8], part: Part) -> Option<Part>
     None
 }
 
-// One entry more, and an expression under d binders.
-fn push(stack: &mut [u8], sp: usize, d: usize, k: u8) -> Option<Part>
-    requires { sp < length stack.old }
-    ensures { Comes (due d (k ∷ stack_of stack.old sp)) (sp + 1) d result stack.new }
+// One entry more, and the expression comes next.
+fn push(stack: &mut [u8], part: Part, k: u8) -> Option<Part>
+    requires { part.sp < length stack.old }
+    ensures { Comes (due part.d (k ∷ stack_of stack.old part.sp)) (part.sp + 1) part.d result stack.new }
 {
-    stack[sp] = k;
-    Some(Part { d, sp: sp + 1 })
+    stack[part.sp] = k;
+    Some(Part {
+        sp: part.sp + 1,
+        ..part
+    })
 }
 
 // The code c of the expression has been read: what comes next, if anything does.
@@ -74,23 +77,31 @@ pub(crate) fn after(stack: &mut [u8], part: Part, c: u8) -> Option<Part>
     requires { Room stack.old (part.sp + push_of c) part.d }
     ensures { Comes (after·of c part.d (stack_of stack.old part.sp)) (part.sp + push_of c) (part.d + 1) result stack.new }
 {
-    let Part { d, sp } = part;
-    let k = kids(c);
-    if k == 0 {
-        return ended(stack, part);
-    }
-    if k == 1 {
-        if binds1(c) == 0 {
-            return Some(part);
+    match kids(c) {
+        0 => ended(stack, part),
+        1 => {
+            if binds1(c) == 0 {
+                return Some(part);
+            }
+            let bound = Part {
+                d: part.d + 1,
+                ..part
+            };
+            push(stack, bound, SCOPE)
         }
-        return push(stack, sp, d + 1, SCOPE);
-    }
-    if k == 2 {
-        if binds2(c) == 0 {
-            return push(stack, sp, d, FURTHER);
+        2 => {
+            if binds2(c) == 0 {
+                return push(stack, part, FURTHER);
+            }
+            push(stack, part, BOUND)
         }
-        return push(stack, sp, d, BOUND);
+        _ => {
+            stack[part.sp] = FURTHER;
+            let second = Part {
+                sp: part.sp + 1,
+                ..part
+            };
+            push(stack, second, FURTHER)
+        }
     }
-    stack[sp] = FURTHER;
-    push(stack, sp + 1, d, FURTHER)
 }

@@ -9,9 +9,9 @@ pub fn skip(s: &[u8], at: usize) -> Option<usize>
 {
     let mut i = at;
     let mut need: usize = 1;
-    while i < s.len() {
-        if need == 0 {
-            return Some(i);
+    while 0 < need {
+        if s.len() <= i {
+            return None;
         }
         let c = s[i];
         if !is_code(c) {
@@ -24,5 +24,5 @@ pub fn skip(s: &[u8], at: usize) -> Option<usize>
         need = need - 1 + kids(c);
         i += w;
     }
-    (need == 0).then_some(i)
+    Some(i)
 }

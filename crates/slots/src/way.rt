@@ -16,59 +16,44 @@ pub struct Reached {
     pub second: Option<usize>,
 }
 
-// The part into which evaluation goes on from the code at p; p itself where it goes no further.
+// The part into which evaluation goes on from the code at p; p itself where it goes no further. Inlined, so that the answer, which is asked for
+// at each code of the way, does not go through memory.
+#[inline(always)]
 pub(crate) fn onward(s: &[u8], p: usize) -> Reached
     requires { p < length s.now }
     ensures { Onward s.now p result.at result.second }
 {
+    let here = Reached {
+        at: p,
+        second: None,
+    };
     let c = s[p];
     if !goes_first(c) {
-        return Reached {
-            at: p,
-            second: None,
-        };
+        return here;
     }
     let f = p + fields(c) + 1;
     if s.len() <= f {
-        return Reached {
-            at: p,
-            second: None,
-        };
+        return here;
     }
     if !value(s[f]) {
-        return Reached {
-            at: f,
-            second: None,
-        };
+        return Reached { at: f, ..here };
     }
     if !goes_second(c) {
-        return Reached {
-            at: p,
-            second: None,
-        };
+        return here;
     }
     let Some(e) = skip(s, f) else {
-        return Reached {
-            at: p,
-            second: None,
-        };
+        return here;
     };
     if s.len() <= e {
-        return Reached {
-            at: p,
-            second: None,
-        };
+        return here;
     }
     if value(s[e]) {
         return Reached {
-            at: p,
             second: Some(e),
+            ..here
         };
     }
-    Reached {
-        at: e,
-        second: None,
-    }
+    Reached { at: e, ..here }
 }
 
 // The place of the next step of the expression that fills s.

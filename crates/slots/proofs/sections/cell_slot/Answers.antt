@@ -14,5 +14,5 @@ returns-then-is_empty c =
 
 pub returns : goal.returns
 returns c =
-    subst (CellSlot c.args.nl c.args.nc c.args.s.now c.args.stack.now c.closed.new.stack) (sym c.value.ensures)
+    subst (CellSlot c.args.counts.locks c.args.counts.cells c.args.s.now c.args.stack.now c.closed.new.stack) (sym c.value.ensures)
     (cell_by c.closed.ensures (asked_yes c.closed.result 0 c.if-ne.ensures))

@@ -10,6 +10,6 @@ returns-in_default c = thread_none c.in_default.ensures c.args.marks.now refl
 
 pub returns : goal.returns
 returns c =
-    subst (ThreadSlot c.args.nl c.args.nc c.args.s.now c.args.marks.now c.open_sections.new.marks c.args.stack.now c.closed.new.stack)
+    subst (ThreadSlot c.args.counts.locks c.args.counts.cells c.args.s.now c.args.marks.now c.open_sections.new.marks c.args.stack.now c.closed.new.stack)
     (sym (c.eq.ensures ∙ one_more_eq c.open_sections.result c.in-Some.n))
     (thread_by c.in-Some.ensures (λ z. absurd (omega (arith, z))) c.open_sections.ensures)

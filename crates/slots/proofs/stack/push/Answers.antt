@@ -9,8 +9,8 @@ use Rattle.slots.proofs.stack.push.Goals as goal
 pub returns : goal.returns
 returns c =
     record {
-      is = ap (λ (l : List ℕ). due c.args.d l)
-          (stack_push c.args.stack.now c.args.sp c.args.k c.requires);
+      is = ap (λ (l : List ℕ). due c.args.part.d l)
+          (stack_push c.args.stack.now c.args.part.sp c.args.k c.requires);
       most = omega arith;
       under = omega arith;
     }
