@@ -42,11 +42,6 @@ pub record Cut3 (s : List ℕ) (a b c d : ℕ) : Type 0 where
 pub record Short (s stack : List ℕ) : Type 0 where
   pub long : 2 * length s ≤ length stack
 
--- where the cells' slots are, and how large: their places are numbers of the machine
-pub record Sized (from size : ℕ) : Type 0 where
-  pub low : from < 16777216
-  pub small : size < 65536
-
 -- the term v stands from a up to b
 pub record Part (s : List ℕ) (a b : ℕ) (v : Term) : Type 0 where
   pub rest : List ℕ

@@ -48,7 +48,7 @@ pub(crate) fn act(
     match c {
         APPLY => apply(s, second_from(s, second), out, stack),
         NEW_CELL => make_cell(s, byte_at(state, 4), card.cells, card.cell_bytes, out),
-        READ => read(s, state, card.cells_start(), card.cell_bytes, out),
+        READ => read(s, state, card, out),
         WRITE => write(s, second_from(s, second), card.cell_bytes, out),
         FORK => fork(s, byte_at(state, 3), card.threads, out),
         NEW_LOCK => make_lock(s, byte_at(state, 5), card.locks, out, stack),

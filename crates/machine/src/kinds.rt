@@ -2,7 +2,9 @@
 // and h on. What the part becomes is written to `out`, as far as there is room.
 ghost use Rattle.std.specs.Prelude.{◌≡◌, ◌<◌, ◌≤◌, length};
 ghost use Rattle.paper.specs.Base.{word32};
-ghost use Rattle.machine.specs.Means.{Cut, Cut2, Cut3, Short, Sized};
+ghost use Rattle.plans.specs.Card.{card_of};
+ghost use Rattle.plans.specs.ByteAt.{cells_from};
+ghost use Rattle.machine.specs.Means.{Cut, Cut2, Cut3, Short};
 ghost use Rattle.machine.specs.Kinds.{Applied, LetBound, LockMade, CellMade, CellRead, CellWritten, Forked};
 ghost use Rattle.machine.specs.Kinds.{LockTaken, LockReleased, WentOn, Added, Branched};
 
@@ -10,6 +12,7 @@ use crate::act::{Also, Goes, goes_on};
 use crate::answer::{Kind, NoStep};
 use crate::codes::{CELL, FUNCTION, LOCK, NUMBER, OPEN, UNIT};
 use places::{byte_at, two_at};
+use plans::card::Card;
 use slots::put::put;
 use writing::{fill, fill_both};
 
@@ -85,33 +88,25 @@ pub(crate) fn make_cell(
     goes_on(Kind::CellMade, j, n, Also::NewCell)
 }
 
-// The cells' slots of `size` bytes stand in the state from `from` on.
-pub(crate) fn read(
-    s: &[u8],
-    state: &[u8],
-    from: usize,
-    size: usize,
-    out: &mut [u8],
-) -> Result<Goes, NoStep>
-    requires cut { Cut s.now 1 (length s.now) }
-    requires sized { Sized from size }
-    ensures { CellRead s.now state.now from size (length out.old) out.new result }
+pub(crate) fn read(s: &[u8], state: &[u8], card: Card, out: &mut [u8]) -> Result<Goes, NoStep>
+    requires { Cut s.now 1 (length s.now) }
+    ensures { CellRead s.now state.now (cells_from (card_of card)) card.cell_bytes (length out.old) out.new result }
 {
     if s[1] != CELL {
         return Err(NoStep::IsStuck);
     }
-    let j = byte_at(s, 2) as usize;
-    let n = two_at(state, 70 + 2 * j);
-    if size < n {
+    let j = byte_at(s, 2);
+    let slot = card.cell(j);
+    let n = two_at(state, slot.place);
+    if slot.size < n {
         return Err(NoStep::IsStuck);
     }
-    let a = from + size * j;
-    let b = a + n;
-    if state.len() < b {
+    let end = slot.base + n;
+    if state.len() < end {
         return Err(NoStep::IsStuck);
     }
-    let m = fill(&state[a..b], out, 0);
-    goes_on(Kind::Read, j, m, Also::Nothing)
+    let m = fill(&state[slot.base..end], out, 0);
+    goes_on(Kind::Read, j as usize, m, Also::Nothing)
 }
 
 pub(crate) fn write(s: &[u8], g: usize, size: usize, out: &mut [u8]) -> Result<Goes, NoStep>
@@ -121,13 +116,13 @@ pub(crate) fn write(s: &[u8], g: usize, size: usize, out: &mut [u8]) -> Result<G
     if s[1] != CELL {
         return Err(NoStep::IsStuck);
     }
-    let j = byte_at(s, 2) as usize;
+    let j = byte_at(s, 2);
     if size < s.len() - g {
         return Err(NoStep::TooLong);
     }
     let v = [UNIT];
     let n = fill(&v, out, 0);
-    goes_on(Kind::Write, j, n, Also::SetCell(j, g))
+    goes_on(Kind::Write, j as usize, n, Also::SetCell(j, g))
 }
 
 pub(crate) fn fork(s: &[u8], count: u8, room: usize, out: &mut [u8]) -> Result<Goes, NoStep>
@@ -139,7 +134,7 @@ pub(crate) fn fork(s: &[u8], count: u8, room: usize, out: &mut [u8]) -> Result<G
     }
     let v = [UNIT];
     let n = fill(&v, out, 0);
-    goes_on(Kind::Fork, i, n, Also::NewThread(i))
+    goes_on(Kind::Fork, i, n, Also::NewThread(count))
 }
 
 // The open section takes the place of the code and the lock.

@@ -8,9 +8,6 @@ use Rattle.machine.proofs.change.change.Goals as goal
 pub new_cell-requires : goal.new_cell-requires
 new_cell-requires c = record { state_bound = new_cell_few c.args.card.fits c.requires.altering c.in-NewCell.is }
 
-pub set_cell-requires : goal.set_cell-requires
-set_cell-requires c = record { j_bound = set_cell_low c.args.card.fits c.requires.altering c.in-SetCell.is }
-
 pub overflow_add-count : goal.overflow_add-count
 overflow_add-count c = let h = new_lock_few c.args.card.fits c.requires.altering c.in-NewLock.is in omega (arith, c.byte_at-count.ensures)
 

@@ -15,8 +15,8 @@ apply-requires-clause-cut2 c = two_cut c.requires.redex of_app c.in-5.is c.secon
 pub make_cell-requires : goal.make_cell-requires
 make_cell-requires c = one_cut c.requires.redex of_cell c.in-6.is
 
-pub read-requires-clause-cut : goal.read-requires-clause-cut
-read-requires-clause-cut c = one_cut c.requires.redex of_read c.in-7.is
+pub read-requires : goal.read-requires
+read-requires c = one_cut c.requires.redex of_read c.in-7.is
 
 pub write-requires : goal.write-requires
 write-requires c = two_cut c.requires.redex of_write c.in-8.is c.second_from-in-8.ensures
@@ -49,7 +49,7 @@ pub returns-in-6 : goal.returns-in-6
 returns-in-6 c = acts_cell c.args.card.fits c.in-6.is c.byte_at.ensures c.make_cell.ensures
 
 pub returns-in-7 : goal.returns-in-7
-returns-in-7 c = acts_read c.args.card.fits c.in-7.is (rw c.cells_start.ensures at c.read.ensures)
+returns-in-7 c = acts_read c.args.card.fits c.in-7.is c.read.ensures
 
 pub returns-in-8 : goal.returns-in-8
 returns-in-8 c = acts_write c.args.card.fits c.second_from-in-8.ensures c.in-8.is c.write.ensures

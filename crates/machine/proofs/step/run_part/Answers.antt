@@ -20,26 +20,14 @@ returns-in_err-goes c =
 pub overflow_sub-due : goal.overflow_sub-due
 overflow_sub-due c = part_fits c.requires
 
-pub overflow_sub-size : goal.overflow_sub-size
-overflow_sub-size c = part_rest c.requires
+pub overflow_sub-card : goal.overflow_sub-card
+overflow_sub-card c = part_rest c.requires
 
-pub returns-then-size-due : goal.returns-then-size-due
-returns-then-size-due c = run_outgrows c.requires c.act.ensures c.in_ok-goes.was c.if-size-due.true
+pub returns-then-card-due : goal.returns-then-card-due
+returns-then-card-due c = run_outgrows c.requires c.act.ensures c.in_ok-goes.was c.if-card-due.true
 
 pub change-requires : goal.change-requires
 change-requires c = record { altering = run_altering c.requires c.act.ensures c.in_ok-goes.was }
 
-pub overflow_mul-base : goal.overflow_mul-base
-overflow_mul-base c = slot_fits c.args.card.thread_bytes c.args.i c.requires.base.fits.thread_bytes (thread_low c.requires)
-
-pub overflow_add-base : goal.overflow_add-base
-overflow_add-base c = slot_from c.args.card.thread_bytes c.args.i c.requires.base.fits.thread_bytes (thread_low c.requires) (lit< tt)
-
-pub overflow_mul-i : goal.overflow_mul-i
-overflow_mul-i c = pair_fits (thread_low c.requires)
-
-pub overflow_add-i : goal.overflow_add-i
-overflow_add-i c = pair_from (lit< tt) (thread_low c.requires)
-
 pub returns : goal.returns
-returns c = run_made c.requires c.act.ensures c.in_ok-goes.was c.if-size-due.false c.change.auto.state c.change.ensures c.exchange.ensures
+returns c = run_made c.requires c.act.ensures c.in_ok-goes.was c.if-card-due.false c.change.auto.state c.change.ensures (rw c.thread.ensures at c.exchange.ensures)
