@@ -1,9 +1,15 @@
 use Prim.Native.Nat.{◌-◌, ◌≤◌}
-use Rattle.states.specs.RowWays.{Threading}
+use mathlib.Core.Path.{◌≡◌}
+use lib.ListN.{length}
+use Rattle.slots.specs.Slot.{thread_test, thread_marks}
+use Rattle.states.specs.RowWays.{Passing}
 use Rattle.states.proofs.rows.are_threads.Given as goal
 
 abbrev pub invariant-loop-i : goal.invariant-loop-i
-invariant-loop-i l = Threading l.from l.size l.lens l.nl l.nc l.s l.initial.marks l.initial.stack l.marks l.stack l.i × (l.i ≤ l.n)
+invariant-loop-i l =
+    Passing (thread_test (length l.initial.stack) l.counts.locks l.counts.cells) (thread_marks (length l.initial.stack) l.counts.locks l.counts.cells)
+    l.rows.from l.rows.size l.rows.lens l.s l.initial.marks l.marks l.i
+    × (length l.stack ≡ length l.initial.stack) × (length l.marks ≡ length l.initial.marks) × (l.i ≤ l.rows.count)
 
 abbrev pub decreases-loop-i : goal.decreases-loop-i
-decreases-loop-i l = l.n - l.i
+decreases-loop-i l = l.rows.count - l.i
