@@ -29,57 +29,57 @@ module _ {s : List ℕ} {p : ℕ} (i : p < length s) where
   unfolding onward inward second_at both
   on_stop g = here (rw g) (rw g)
 
-  -- with w bytes of its own
-  module _ (w : ℕ) (ew : w ≡ field_of (get_or s p 0)) (g : goes1 (get_or s p 0) ≡ true) where
-    pub on_cut : length s ≤ p + w + 1 → Onward s p p None
+  -- with the first part from f on
+  module _ (f : ℕ) (ef : f ≡ p + field_of (get_or s p 0) + 1) (g : goes1 (get_or s p 0) ≡ true) where
+    pub on_cut : length s ≤ f → Onward s p p None
     unfolding onward inward second_at both
-    on_cut h = here (rw (sym ew, g, le-ltb _ _ h)) (rw (sym ew, g, le-ltb _ _ h))
+    on_cut h = here (rw (sym ef, g, le-ltb _ _ h)) (rw (sym ef, g, le-ltb _ _ h))
 
-    module _ (h : p + w + 1 < length s) where
-      pub on_first : is_value (get_or s (p + w + 1) 0) ≡ false → Onward s p (p + w + 1) None
+    module _ (h : f < length s) where
+      pub on_first : is_value (get_or s f 0) ≡ false → Onward s p f None
       unfolding onward inward second_at both
       on_first n = record {
-        says = rw (sym ew, g, lt-ltb _ _ h, n);
+        says = rw (sym ef, g, lt-ltb _ _ h, n);
         later = omega arith;
         inside = omega arith;
-        second = let z : 0 ≡ second_at s p = rw (sym ew, g, lt-ltb _ _ h, n) in ap found z;
+        second = let z : 0 ≡ second_at s p = rw (sym ef, g, lt-ltb _ _ h, n) in ap found z;
       }
 
-      module _ (v : is_value (get_or s (p + w + 1) 0) ≡ true) where
+      module _ (v : is_value (get_or s f 0) ≡ true) where
         pub on_one : goes2 (get_or s p 0) ≡ false → Onward s p p None
         unfolding onward inward second second_at both
-        on_one n = here (rw (sym ew, g, lt-ltb _ _ h, v, n)) (rw (sym ew, g, lt-ltb _ _ h, v, n))
+        on_one n = here (rw (sym ef, g, lt-ltb _ _ h, v, n)) (rw (sym ef, g, lt-ltb _ _ h, v, n))
 
         -- with the first part's end at e
-        module _ (g2 : goes2 (get_or s p 0) ≡ true) (e : ℕ) (ee : e ≡ skip_of s (p + w + 1)) where
-          pub on_none : e ≤ p + w + 1 → Onward s p p None
+        module _ (g2 : goes2 (get_or s p 0) ≡ true) (e : ℕ) (ee : e ≡ skip_of s f) where
+          pub on_none : e ≤ f → Onward s p p None
           unfolding onward inward second second_at both
-          on_none l = here (rw (sym ew, g, lt-ltb _ _ h, v, g2, sym ee, le-ltb _ _ l)) (rw (sym ew, g, lt-ltb _ _ h, v, g2, sym ee, le-ltb _ _ l))
+          on_none l = here (rw (sym ef, g, lt-ltb _ _ h, v, g2, sym ee, le-ltb _ _ l)) (rw (sym ef, g, lt-ltb _ _ h, v, g2, sym ee, le-ltb _ _ l))
 
-          module _ (l : p + w + 1 < e) where
+          module _ (l : f < e) where
             pub on_end : length s ≤ e → Onward s p p None
             unfolding onward inward second second_at both
             on_end m =
-                here (rw (sym ew, g, lt-ltb _ _ h, v, g2, sym ee, lt-ltb _ _ l, le-ltb _ _ m))
-                (rw (sym ew, g, lt-ltb _ _ h, v, g2, sym ee, lt-ltb _ _ l, le-ltb _ _ m))
+                here (rw (sym ef, g, lt-ltb _ _ h, v, g2, sym ee, lt-ltb _ _ l, le-ltb _ _ m))
+                (rw (sym ef, g, lt-ltb _ _ h, v, g2, sym ee, lt-ltb _ _ l, le-ltb _ _ m))
 
             module _ (m : e < length s) where
               pub on_both : is_value (get_or s e 0) ≡ true → Onward s p p (Some e)
               unfolding onward inward second second_at both
               on_both n = record {
-                says = rw (sym ew, g, lt-ltb _ _ h, v, g2, sym ee, lt-ltb _ _ l, lt-ltb _ _ m, n);
+                says = rw (sym ef, g, lt-ltb _ _ h, v, g2, sym ee, lt-ltb _ _ l, lt-ltb _ _ m, n);
                 later = omega arith;
                 inside = omega arith;
-                second = found_at (second_at s p) e (omega arith) (rw (sym ew, g, lt-ltb _ _ h, v, g2, sym ee, lt-ltb _ _ l, lt-ltb _ _ m, n));
+                second = found_at (second_at s p) e (omega arith) (rw (sym ef, g, lt-ltb _ _ h, v, g2, sym ee, lt-ltb _ _ l, lt-ltb _ _ m, n));
               }
 
               pub on_second : is_value (get_or s e 0) ≡ false → Onward s p e None
               unfolding onward inward second second_at both
               on_second n = record {
-                says = rw (sym ew, g, lt-ltb _ _ h, v, g2, sym ee, lt-ltb _ _ l, lt-ltb _ _ m, n);
+                says = rw (sym ef, g, lt-ltb _ _ h, v, g2, sym ee, lt-ltb _ _ l, lt-ltb _ _ m, n);
                 later = omega arith;
                 inside = omega arith;
-                second = let z : 0 ≡ second_at s p = rw (sym ew, g, lt-ltb _ _ h, v, g2, sym ee, lt-ltb _ _ l, lt-ltb _ _ m, n) in ap found z;
+                second = let z : 0 ≡ second_at s p = rw (sym ef, g, lt-ltb _ _ h, v, g2, sym ee, lt-ltb _ _ l, lt-ltb _ _ m, n) in ap found z;
               }
 
 -- past the end nothing goes on

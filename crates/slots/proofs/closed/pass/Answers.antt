@@ -2,6 +2,7 @@
 -- `ClosedLoop`.
 use mathlib.Core.Path.{refl, sym, ap, ◌∙◌}
 use Rattle.std.proofs.Common.{add-one}
+use Prim.Native.Nat.{◌-◌}
 use native.Mathlib.Omega.{arith}
 use Rattle.slots.specs.Found.{one_more}
 use Rattle.slots.specs.ClosedLoop.{passing_start, passing_part, passing_past, passing_over, passing_end, passing_short, passing_uncoded}
@@ -29,15 +30,15 @@ pub returns-then-s-i-2 : goal.returns-then-s-i-2
 returns-then-s-i-2 c =
     passing_cut (passing_part c.loop-next.invariant c.in-Some.is) c.if-s-i.false refl
     (sym c.is_code.ensures ∙ c.if-not-is_code.false) c.from.result (c.from.ensures ∙ c.byte.ensures)
-    (sym c.field_ok.ensures ∙ c.if-not-field_ok.false) c.fields-w.result
-    c.fields-w.ensures.says (omega arith)
+    (sym c.field_ok.ensures ∙ c.if-not-field_ok.false) (c.width-w.result - 1)
+    (omega (arith, c.width-w.ensures.says)) (omega arith)
 
 pub returns-then-stack-part : goal.returns-then-stack-part
 returns-then-stack-part c =
     passing_full (passing_part c.loop-next.invariant c.in-Some.is) c.if-s-i.false refl
     (sym c.is_code.ensures ∙ c.if-not-is_code.false) c.from.result (c.from.ensures ∙ c.byte.ensures)
-    (sym c.field_ok.ensures ∙ c.if-not-field_ok.false) c.fields-w.result
-    c.fields-w.ensures.says (omega (arith, c.pushes.ensures, c.if-stack-part.true))
+    (sym c.field_ok.ensures ∙ c.if-not-field_ok.false) (c.width-w.result - 1)
+    (omega (arith, c.width-w.ensures.says)) (omega (arith, c.pushes.ensures, c.if-stack-part.true))
 
 pub after-next-requires : goal.after-next-requires
 after-next-requires c =
@@ -52,8 +53,8 @@ loop-next-preserved c =
     let l = passing_part c.loop-next.invariant c.in-Some.is in
     passing_on l c.if-s-i.false refl
     (sym c.is_code.ensures ∙ c.if-not-is_code.false) c.from.result (c.from.ensures ∙ c.byte.ensures)
-    (sym c.field_ok.ensures ∙ c.if-not-field_ok.false) c.fields-w.result
-    c.fields-w.ensures.says _ (omega arith) (omega arith)
+    (sym c.field_ok.ensures ∙ c.if-not-field_ok.false) (c.width-w.result - 1)
+    (omega (arith, c.width-w.ensures.says)) _ (omega arith) (omega arith)
     (omega (arith, c.pushes.ensures, c.if-stack-part.false, l.long, l.top))
     c.opening-n.result c.opening-n.ensures.says c.after-next.auto.stack c.after-next.ensures
 

@@ -1,6 +1,6 @@
 -- What is written, the stretch up to here and what is to come are the whole; no bytes take more of the stack than there is (`PutLoop`).
 use mathlib.Core.Path.{◌≡◌, refl, sym, ◌∙◌}
-use Prim.Native.Nat.{◌+◌}
+use Prim.Native.Nat.{◌+◌, ◌-◌}
 use native.Mathlib.Omega.{arith}
 use Rattle.slots.specs.PutLoop.{putting_start, putting_part, putting_past, putting_end, putting_over, putting_length}
 use Rattle.slots.specs.PutLoop.{putting_short, putting_value, putting_stack, putting_code}
@@ -41,8 +41,8 @@ after-next-requires c = record { top = putting_stack (putting_part c.loop-i.inva
 
 pub loop-i-preserved : goal.loop-i-preserved
 loop-i-preserved c =
-    let e : c.loop-i.i + (c.fields.result + 1) ≡ c.loop-i.i + c.fields.result + 1 = omega arith in
-    rw e (putting_code (putting_part c.loop-i.invariant c.in-Some.is) c.loop-i-test.true refl (sym c.is_hit.ensures ∙ c.if-is_hit.false) c.fields.result c.fields.ensures.says c.after-next.auto.stack c.after-next.ensures)
+    let e : c.loop-i.i + c.width-i.result ≡ c.loop-i.i + (c.width-i.result - 1) + 1 = omega (arith, c.width-i.ensures.says) in
+    rw e (putting_code (putting_part c.loop-i.invariant c.in-Some.is) c.loop-i-test.true refl (sym c.is_hit.ensures ∙ c.if-is_hit.false) (c.width-i.result - 1) (omega (arith, c.width-i.ensures.says)) c.after-next.auto.stack c.after-next.ensures)
 
 pub slice_bounds-fill-count-2 : goal.slice_bounds-fill-count-2
 slice_bounds-fill-count-2 c = c.loop-i.invariant.inside
