@@ -31,10 +31,10 @@ pub shape_of-dst-then-dst-out : goal.shape_of-dst-then-dst-out
 shape_of-dst-then-dst-out c = c.fill_both-out.auto.dst ∙ putting_length c.loop-i.invariant
 
 pub returns-then-dst-out : goal.returns-then-dst-out
-returns-then-dst-out c = putting_short (putting_part c.loop-i.invariant c.in-Some.is) c.loop-i-test.true refl (sym c.is_hit.ensures ∙ c.if-is_hit.true) c.fill_both-out.ensures (omega (arith, c.if-dst-out.true, c.fill_both-out.auto.dst))
+returns-then-dst-out c = putting_short (putting_part c.loop-i.invariant c.in-Some.is) c.loop-i-test.true refl (sym c.if-is_hit.ensures) c.fill_both-out.ensures (omega (arith, c.if-dst-out.true, c.fill_both-out.auto.dst))
 
 pub loop-i-preserved-then-is_hit : goal.loop-i-preserved-then-is_hit
-loop-i-preserved-then-is_hit c = putting_value (putting_part c.loop-i.invariant c.in-Some.is) c.loop-i-test.true refl (sym c.is_hit.ensures ∙ c.if-is_hit.true) c.fill_both-out.ensures (omega (arith, c.if-dst-out.false, c.fill_both-out.auto.dst)) c.ended-next.auto.stack c.ended-next.ensures
+loop-i-preserved-then-is_hit c = putting_value (putting_part c.loop-i.invariant c.in-Some.is) c.loop-i-test.true refl (sym c.if-is_hit.ensures) c.fill_both-out.ensures (omega (arith, c.if-dst-out.false, c.fill_both-out.auto.dst)) c.ended-next.auto.stack c.ended-next.ensures
 
 pub after-next-requires : goal.after-next-requires
 after-next-requires c = record { top = putting_stack (putting_part c.loop-i.invariant c.in-Some.is) c.loop-i-test.true refl; deep = let l = putting_part c.loop-i.invariant c.in-Some.is in omega (arith, l.deep, l.long, c.loop-i-test.true) }
@@ -42,7 +42,7 @@ after-next-requires c = record { top = putting_stack (putting_part c.loop-i.inva
 pub loop-i-preserved : goal.loop-i-preserved
 loop-i-preserved c =
     let e : c.loop-i.i + c.width-i.result ≡ c.loop-i.i + (c.width-i.result - 1) + 1 = omega (arith, c.width-i.ensures.says) in
-    rw e (putting_code (putting_part c.loop-i.invariant c.in-Some.is) c.loop-i-test.true refl (sym c.is_hit.ensures ∙ c.if-is_hit.false) (c.width-i.result - 1) (omega (arith, c.width-i.ensures.says)) c.after-next.auto.stack c.after-next.ensures)
+    rw e (putting_code (putting_part c.loop-i.invariant c.in-Some.is) c.loop-i-test.true refl (sym c.if-is_hit.ensures) (c.width-i.result - 1) (omega (arith, c.width-i.ensures.says)) c.after-next.auto.stack c.after-next.ensures)
 
 pub slice_bounds-fill-count-2 : goal.slice_bounds-fill-count-2
 slice_bounds-fill-count-2 c = c.loop-i.invariant.inside
