@@ -8,7 +8,7 @@ use Rattle.std.proofs.Math.ListN.{get_or, get_or-eq_default}
 use borrow.Author.Tests.{lt-ltb, le-ltb, ne_eqb}
 use Rattle.slots.specs.Codes.{Told, field_of, goes1, goes2, is_value}
 use Rattle.slots.specs.Walk.{skip_of}
-use Rattle.slots.specs.Found.{Answer, found, found_at, one_more}
+use Rattle.slots.specs.Answer.{Answer, nonzero, nonzero_at, one_more}
 use Rattle.slots.specs.Way.{second, inward, onward, both, second_at, place_from, place_of, cell_from, aim_at, aim_number, aim_of, Place, Aim}
 use Rattle.slots.specs.Way.{place_here, place_on}
 
@@ -19,11 +19,11 @@ pub record Onward (s : List ℕ) (p r : ℕ) (e : Answer) : Type 0 where
   pub says : r ≡ onward s p
   pub later : p ≤ r
   pub inside : r ≤ length s
-  pub second : e ≡ found (second_at s p)
+  pub second : e ≡ nonzero (second_at s p)
 
 module _ {s : List ℕ} {p : ℕ} (i : p < length s) where
   here : onward s p ≡ p → second_at s p ≡ 0 → Onward s p p None
-  here z w = record { says = sym z; later = omega arith; inside = omega arith; second = ap found (sym w) }
+  here z w = record { says = sym z; later = omega arith; inside = omega arith; second = ap nonzero (sym w) }
 
   pub on_stop : goes1 (get_or s p 0) ≡ false → Onward s p p None
   unfolding onward inward second_at both
@@ -42,7 +42,7 @@ module _ {s : List ℕ} {p : ℕ} (i : p < length s) where
         says = rw (sym ef, g, lt-ltb _ _ h, n);
         later = omega arith;
         inside = omega arith;
-        second = let z : 0 ≡ second_at s p = rw (sym ef, g, lt-ltb _ _ h, n) in ap found z;
+        second = let z : 0 ≡ second_at s p = rw (sym ef, g, lt-ltb _ _ h, n) in ap nonzero z;
       }
 
       module _ (v : is_value (get_or s f 0) ≡ true) where
@@ -70,7 +70,7 @@ module _ {s : List ℕ} {p : ℕ} (i : p < length s) where
                 says = rw (sym ef, g, lt-ltb _ _ h, v, g2, sym ee, lt-ltb _ _ l, lt-ltb _ _ m, n);
                 later = omega arith;
                 inside = omega arith;
-                second = found_at (second_at s p) e (omega arith) (rw (sym ef, g, lt-ltb _ _ h, v, g2, sym ee, lt-ltb _ _ l, lt-ltb _ _ m, n));
+                second = nonzero_at (second_at s p) e (omega arith) (rw (sym ef, g, lt-ltb _ _ h, v, g2, sym ee, lt-ltb _ _ l, lt-ltb _ _ m, n));
               }
 
               pub on_second : is_value (get_or s e 0) ≡ false → Onward s p e None
@@ -79,7 +79,7 @@ module _ {s : List ℕ} {p : ℕ} (i : p < length s) where
                 says = rw (sym ef, g, lt-ltb _ _ h, v, g2, sym ee, lt-ltb _ _ l, lt-ltb _ _ m, n);
                 later = omega arith;
                 inside = omega arith;
-                second = let z : 0 ≡ second_at s p = rw (sym ef, g, lt-ltb _ _ h, v, g2, sym ee, lt-ltb _ _ l, lt-ltb _ _ m, n) in ap found z;
+                second = let z : 0 ≡ second_at s p = rw (sym ef, g, lt-ltb _ _ h, v, g2, sym ee, lt-ltb _ _ l, lt-ltb _ _ m, n) in ap nonzero z;
               }
 
 -- past the end nothing goes on
@@ -120,14 +120,14 @@ further s p h (suc g) l e = (
 
 module _ {s : List ℕ} {p : ℕ} (l : Placing s p) where
   pub placing_end : length s ≤ p → Place s p None
-  placing_end h = record { says = sym (past_place l.fuel s p h) ∙ l.same; inside = l.inside; second = ap found (sym (past_second s p h)) }
+  placing_end h = record { says = sym (past_place l.fuel s p h) ∙ l.same; inside = l.inside; second = ap nonzero (sym (past_second s p h)) }
 
   module _ (h : p < length s) {r : ℕ} {e : Answer} (o : Onward s p r e) where
     pub placing_here : r ≡ p → Place s r e
     placing_here z = record {
       says = z ∙ (further s p h l.fuel l.enough l.same).0 (sym o.says ∙ z);
       inside = o.inside;
-      second = o.second ∙ ap (λ x. found (second_at s x)) (sym z);
+      second = o.second ∙ ap (λ x. nonzero (second_at s x)) (sym z);
     }
 
     pub placing_on : (r ≡ p → ⊥) → Placing s r

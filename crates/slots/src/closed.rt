@@ -1,6 +1,6 @@
 // Whether one closed expression fills a slot: one pass, on a lent stack as long as the slot.
 ghost use Rattle.std.specs.Prelude.{◌≡◌, length};
-ghost use Rattle.slots.specs.Found.{one_more};
+ghost use Rattle.slots.specs.Answer.{one_more};
 ghost use Rattle.slots.specs.Closed.{field_ok, closed_count, Closed};
 
 use crate::codes::{CELL, LOCK, OPEN, VARIABLE, byte, is_code, opening, width};

@@ -1,7 +1,7 @@
 // Where evaluation goes in a slot: a path search without memory, since a value is told by its first byte.
 ghost use Rattle.std.specs.Prelude.{◌+◌, ◌≤◌, ◌<◌, length};
 ghost use Rattle.slots.specs.Codes.{Told};
-ghost use Rattle.slots.specs.Found.{one_more};
+ghost use Rattle.slots.specs.Answer.{one_more};
 ghost use Rattle.slots.specs.Way.{cell_from, aim_at, aim_number, Place, Aim};
 ghost use Rattle.slots.specs.WayLoop.{Onward};
 
