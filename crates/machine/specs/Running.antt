@@ -7,12 +7,11 @@ use Rattle.std.proofs.Math.ListN.{length-append}
 use Rattle.paper.specs.Terms.{Term, term_bytes, value}
 use Rattle.paper.specs.Evaluation.{placed}
 use Rattle.paper.specs.States.{State, Card, Holds, Fits}
-use Rattle.paper.specs.Steps.{Change, Move, waits, stuck, full, long, goes, in_place, move}
+use Rattle.paper.specs.Steps.{Change, Move, goes, in_place, move}
 use Rattle.paper.specs.Cases.{told}
 use Rattle.laws.specs.Lists.{all_get, spliced}
 use Rattle.laws.specs.Good.{good_whole}
 use Rattle.laws.specs.Keeping.{here_at}
-use Rattle.laws.specs.StateBytes.{good_sound}
 use Rattle.places.specs.Cases.{side}
 use Rattle.plans.specs.Reads.{Filled, thread_read}
 use Rattle.plans.specs.Store.{Stores}
@@ -24,7 +23,6 @@ use Rattle.slots.specs.Walk.{skip_of}
 use Rattle.slots.specs.WayTerm.{found}
 use Rattle.slots.specs.Moves.{found_move, replaced}
 use Rattle.machine.specs.declared.act.Goes.{Goes}
-use Rattle.machine.specs.declared.act.Also.{Also}
 use Rattle.machine.specs.declared.answer.NoStep.{NoStep}
 use Rattle.machine.specs.declared.step.Due.{Due}
 use Rattle.machine.specs.declared.answer.NoStep.TheVariants.{TooLong}
@@ -103,9 +101,6 @@ module _ {card : Card} {state : List ℕ} {i : ℕ} {d : Due} {s buffer stack : 
 
   pub part_short : Short s stack
   part_short = record { long = omega (arith, part_fits, thread_fits, w.deep) }
-
-  pub thread_low : i < 256
-  thread_low = omega (arith, here, (good_sound card S holds.state).threads, fits.threads)
 
   alone : Part s 0 (length s) redex
   alone = record {
@@ -221,9 +216,6 @@ module _ {card : Card} {state : List ℕ} {i : ℕ} {d : Due} {s buffer stack : 
       module _ (l : g.size ≤ card.thread_bytes - (d.used - length s)) where
         room : g.size ≤ length buffer
         room = let o = w.room in omega arith
-
-        pub run_room : length out ≡ length buffer → g.size ≤ length out
-        run_room e = subst (λ k. g.size ≤ k) (sym e) room
 
         pub run_made : {between left : List ℕ} → length between ≡ length state → Alters card s g.also state between
             → Exchanges (256 + card.thread_bytes * i) d.used (38 + 2 * i) d.from d.to (take g.size out) between left

@@ -12,8 +12,8 @@ pub(crate) enum Also {
     NewCell,
     SetCell(u8, usize),
     NewLock,
-    Taken(usize),
-    Released(usize),
+    Taken(u8),
+    Released(u8),
     NewThread(u8),
 }
 

@@ -145,14 +145,13 @@ pub(crate) fn take(s: &[u8], g: usize, state: &[u8], out: &mut [u8]) -> Result<G
     if s[1] != LOCK {
         return Err(NoStep::IsStuck);
     }
-    let b = byte_at(s, 2);
-    let l = b as usize;
-    if byte_at(state, 6 + l) != 0 {
-        return Err(NoStep::WaitsFor(l));
+    let l = byte_at(s, 2);
+    if byte_at(state, 6 + l as usize) != 0 {
+        return Err(NoStep::WaitsFor(l as usize));
     }
-    let v = [OPEN, b];
+    let v = [OPEN, l];
     let n = fill_both(&v, &s[g..], out, 0);
-    goes_on(Kind::Take, l, n, Also::Taken(l))
+    goes_on(Kind::Take, l as usize, n, Also::Taken(l))
 }
 
 // The lock stands behind the code, and the part behind the lock.
@@ -160,9 +159,9 @@ pub(crate) fn release(s: &[u8], out: &mut [u8]) -> Result<Goes, NoStep>
     requires { Cut s.now 2 (length s.now) }
     ensures { LockReleased s.now (length out.old) out.new result }
 {
-    let l = byte_at(s, 1) as usize;
+    let l = byte_at(s, 1);
     let n = fill(&s[2..], out, 0);
-    goes_on(Kind::Release, l, n, Also::Released(l))
+    goes_on(Kind::Release, l as usize, n, Also::Released(l))
 }
 
 fn word_at(s: &[u8], k: usize) -> u32

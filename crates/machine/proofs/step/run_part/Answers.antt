@@ -1,9 +1,7 @@
 -- One law of `Running` a way.
-use Rattle.std.proofs.Common.{lit<}
 use Rattle.std.proofs.lemmas.Result.{err_from_is_err_and}
-use Rattle.machine.specs.Running.{part_fits, part_short, thread_low, run_redex, run_refused, part_rest}
+use Rattle.machine.specs.Running.{part_fits, part_short, run_redex, run_refused, part_rest}
 use Rattle.machine.specs.Running.{run_outgrows, run_altering, run_made}
-use Rattle.machine.specs.Fitting.{slot_fits, slot_from, pair_fits, pair_from}
 use Rattle.machine.proofs.step.run_part.Goals as goal
 
 pub act-requires-clause-redex : goal.act-requires-clause-redex
