@@ -27,7 +27,8 @@ use Rattle.machine.specs.declared.answer.NoStep.{NoStep}
 use Rattle.machine.specs.declared.step.Due.{Due}
 use Rattle.machine.specs.declared.answer.NoStep.TheVariants.{TooLong}
 use Rattle.machine.specs.Answer.{kind_number}
-use Rattle.machine.specs.Means.{Short, Cut, Part, part_bytes, part_cut, Became, Changes, Act, Means, is_stuck, is_full, is_long, is_waits, is_goes}
+use Rattle.machine.specs.Cuts.{Cut}
+use Rattle.machine.specs.Means.{Part, part_bytes, part_cut, Became, Changes, Act, Means, is_stuck, is_full, is_long, is_waits, is_goes}
 use Rattle.machine.specs.Cutting.{Redex}
 use Rattle.machine.specs.Acting.{Acts}
 use Rattle.machine.specs.Altering.{Altering, Alters}
@@ -47,7 +48,7 @@ module _ {card : Card} {S : State} {s : List ℕ} {room : ℕ} {out : List ℕ} 
   went : {g : Goes} {m : Move} → Means card S s room out (Ok g) m → Went card S s room out g m
   went (is_goes {x = x} {c = c} b h) = record { term = x; change = c; move_is = refl; became = b; changes = h }
 
-module _ {card : Card} {state : List ℕ} {i : ℕ} {d : Due} {s buffer stack : List ℕ} (w : Running card state i d s buffer stack) where
+module _ {card : Card} {state : List ℕ} {i : ℕ} {d : Due} {s buffer : List ℕ} (w : Running card state i d s buffer) where
   S : State
   S = w.base.held
 
@@ -99,9 +100,6 @@ module _ {card : Card} {state : List ℕ} {i : ℕ} {d : Due} {s buffer stack : 
   pub part_rest : d.used - length s ≤ card.thread_bytes
   part_rest = omega (arith, thread_fits)
 
-  pub part_short : Short s stack
-  part_short = record { long = omega (arith, part_fits, thread_fits, w.deep) }
-
   alone : Part s 0 (length s) redex
   alone = record {
     rest = [];
@@ -114,6 +112,7 @@ module _ {card : Card} {state : List ℕ} {i : ℕ} {d : Due} {s buffer stack : 
   run_redex = record {
     term = redex;
     there = alone;
+    short = let h = w.base.short in omega (arith, part_fits, thread_fits);
     begins = λ e x. w.parted.begins e x ∙ ap (λ z. skip_of z 1) (part_bytes there ∙ sym bytes);
   }
 

@@ -56,9 +56,9 @@ fn run_part(
     due: Due,
     s: &[u8],
     out: &mut [u8],
-    stack: &mut [u8],
+    stack: &mut [u8; 4096],
 ) -> Result<Made, NoStep>
-    requires { Running (card_of card) state.old i due s.now out.old stack.old }
+    requires { Running (card_of card) state.old i due s.now out.old }
     ensures { Answers (card_of card) state.old i state.new result }
 {
     let goes = act(s, due.second, state, card, out, stack)?;
@@ -74,7 +74,8 @@ fn run_part(
     Ok(goes.made)
 }
 
-// A thread number is 64 bits wide until it is known to be below the count.
+// A thread number is 64 bits wide until it is known to be below the count. That the buffer holds a state is asked here and by the runs, and is no
+// fact of a type: between the stores of a step it holds none, and a type over a lent buffer has to keep its fact at each of them.
 pub(crate) fn step_held(
     state: &mut [u8],
     i: u64,

@@ -1,14 +1,11 @@
 -- One law of `Running` a way.
 use Rattle.std.proofs.lemmas.Result.{err_from_is_err_and}
-use Rattle.machine.specs.Running.{part_fits, part_short, run_redex, run_refused, part_rest}
+use Rattle.machine.specs.Running.{part_fits, run_redex, run_refused, part_rest}
 use Rattle.machine.specs.Running.{run_outgrows, run_altering, run_made}
 use Rattle.machine.proofs.step.run_part.Goals as goal
 
-pub act-requires-clause-redex : goal.act-requires-clause-redex
-act-requires-clause-redex c = run_redex c.requires
-
-pub act-requires-clause-short : goal.act-requires-clause-short
-act-requires-clause-short c = part_short c.requires
+pub act-requires : goal.act-requires
+act-requires c = run_redex c.requires
 
 pub returns-in_err-goes : goal.returns-in_err-goes
 returns-in_err-goes c =

@@ -41,4 +41,4 @@ pub shared_ref_as_front-run_part : goal.shared_ref_as_front-run_part
 shared_ref_as_front-run_part c = held_all c.requires c.byte_at-count.ensures c.if-count-i.false (rw c.thread-slot.ensures at c.two_at-n.ensures) (rw c.thread-slot.ensures at c.find_due-due.ensures) (rw c.thread-slot.ensures at c.fill-m.ensures) (search rules)
 
 pub run_part-requires : goal.run_part-requires
-run_part-requires c = held_running c.requires c.byte_at-count.ensures c.if-count-i.false (rw c.thread-slot.ensures at c.two_at-n.ensures) (rw c.thread-slot.ensures at c.find_due-due.ensures) (rw c.thread-slot.ensures at c.fill-m.ensures) (search rules) (rw c.thread-slot.ensures at c.value.ensures) c.if-value.false (search rules) (search rules)
+run_part-requires c = held_running c.requires c.byte_at-count.ensures c.if-count-i.false (rw c.thread-slot.ensures at c.two_at-n.ensures) (rw c.thread-slot.ensures at c.find_due-due.ensures) (rw c.thread-slot.ensures at c.fill-m.ensures) (search rules) (rw c.thread-slot.ensures at c.value.ensures) c.if-value.false (search rules)
