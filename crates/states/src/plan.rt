@@ -5,10 +5,10 @@ ghost use Rattle.plans.specs.Card.{card_of};
 ghost use Rattle.states.specs.Decides.{Decides};
 ghost use Rattle.states.specs.Tested.{HeaderOf, WithinOf, UnusedOf, ReadyOf, PlannedOf, Tested};
 
-use crate::rows::{Rows, are_cells, are_threads, clear_between};
+use crate::rows::{Rows, all_pass, clear_between};
 use places::{byte_at, is_clear, two_at};
 use plans::card::Card;
-use slots::sections::Counts;
+use slots::sections::{Counts, cell_slot, thread_slot};
 
 // Whether the first six bytes are those of a plan of the card, with counts within it.
 fn is_header(s: &[u8], card: Card) -> bool
@@ -69,9 +69,20 @@ fn is_plan(
         count: counts.cells,
     };
     copy_marks(s, marks);
-    are_threads(s, thread_rows, counts, marks, stack)
-        && is_clear(marks)
-        && are_cells(s, cell_rows, counts, stack)
+    all_pass(
+        s,
+        thread_rows,
+        marks,
+        stack,
+        |t, marks, stack| thread_slot(t, counts, marks, stack),
+    ) && is_clear(marks)
+        && all_pass(
+            s,
+            cell_rows,
+            marks,
+            stack,
+            |t, _, stack| cell_slot(t, counts, stack),
+        )
         && is_unused(s, card, threads, counts)
 }
 

@@ -2,10 +2,9 @@
 // is as long as the longest slot.
 ghost use Rattle.std.specs.Prelude.{◌+◌, ◌≤◌, ◌<◌, length};
 ghost use Rattle.states.specs.Decides.{Decides};
-ghost use Rattle.states.specs.Rows.{Zeros, TextAt, Room, Rooms, ThreadRows, CellRows};
+ghost use Rattle.states.specs.Rows.{Zeros, TextAt, Room, Rooms, AllTested};
 
 use places::{is_clear, two_at};
-use slots::sections::{Counts, cell_slot, thread_slot};
 
 // The first `count` slots of `size` bytes from `from` on, and their lengths from `lens` on.
 #[derive(Clone, Copy)]
@@ -37,38 +36,23 @@ fn text(s: &[u8], rows: Rows, i: usize) -> Option<&[u8]>
     Some(&s[base..base + n])
 }
 
-// Whether the slots hold threads, whose open sections take the locks' marks away.
-pub(crate) fn are_threads(
+// Whether the bytes in each slot pass the test, which is lent the marks and the stack.
+pub(crate) fn all_pass<F: Fn(&[u8], &mut [u8], &mut [u8]) -> bool>(
     s: &[u8],
     rows: Rows,
-    counts: Counts,
     marks: &mut [u8],
     stack: &mut [u8],
+    test: F,
 ) -> bool
-    requires { Rooms rows.from rows.size rows.lens rows.count s.now }
-    ensures { ThreadRows rows.from rows.size rows.lens rows.count (length stack.old) counts.locks counts.cells s.now marks.old marks.new result }
+    requires rooms { Rooms rows.from rows.size rows.lens rows.count s.now }
+    requires callable { F.IsAlwaysCallable test }
+    ensures { AllTested (F.post test) rows.from rows.size rows.lens rows.count (length stack.old) s.now marks.old marks.new result }
 {
     for i in 0..rows.count {
         let Some(t) = text(s, rows, i) else {
             return false;
         };
-        if !thread_slot(t, counts, marks, stack) {
-            return false;
-        }
-    }
-    true
-}
-
-// Whether the slots hold cells' values.
-pub(crate) fn are_cells(s: &[u8], rows: Rows, counts: Counts, stack: &mut [u8]) -> bool
-    requires { Rooms rows.from rows.size rows.lens rows.count s.now }
-    ensures { CellRows rows.from rows.size rows.lens rows.count (length stack.old) counts.locks counts.cells s.now result }
-{
-    for i in 0..rows.count {
-        let Some(t) = text(s, rows, i) else {
-            return false;
-        };
-        if !cell_slot(t, counts, stack) {
+        if !test(t, marks, stack) {
             return false;
         }
     }
