@@ -11,6 +11,7 @@ use plans::card::Card;
 use slots::sections::{Counts, cell_slot, thread_slot};
 
 // Whether the first six bytes are those of a plan of the card, with counts within it.
+#[tactic(auto, unfolding(paper::specs::States::total))]
 fn is_header(s: &[u8], card: Card) -> bool
     ensures { Decides result (HeaderOf (card_of card) s.now) }
 {

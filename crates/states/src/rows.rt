@@ -16,6 +16,7 @@ pub(crate) struct Rows {
 }
 
 // Whether there is no byte but 0 from place a up to e.
+#[tactic(auto, using(crate::specs::RowWays::clear_decides))]
 pub(crate) fn clear_between(s: &[u8], a: usize, e: usize) -> bool
     requires { (a ≤ e) × (e ≤ length s.now) }
     ensures { Decides result (Zeros a e s.now) }
