@@ -57,29 +57,25 @@ fn is_plan(
     requires { ReadyOf (card_of card) threads counts s.now marks.old }
     ensures { Decides result (PlannedOf (card_of card) threads counts (length stack.old) s.now) }
 {
-    let thread_rows = Rows {
-        from: 256,
-        size: card.thread_bytes,
-        lens: 38,
+    let threads_in = Rows {
+        first: card.thread(0),
         count: threads,
     };
-    let cell_rows = Rows {
-        from: card.cells_start(),
-        size: card.cell_bytes,
-        lens: 70,
+    let cells_in = Rows {
+        first: card.cell(0),
         count: counts.cells,
     };
     copy_marks(s, marks);
     all_pass(
         s,
-        thread_rows,
+        threads_in,
         marks,
         stack,
         |t, marks, stack| thread_slot(t, counts, marks, stack),
     ) && is_clear(marks)
         && all_pass(
             s,
-            cell_rows,
+            cells_in,
             marks,
             stack,
             |t, _, stack| cell_slot(t, counts, stack),

@@ -5,13 +5,12 @@ ghost use Rattle.states.specs.Decides.{Decides};
 ghost use Rattle.states.specs.Rows.{Zeros, TextAt, Room, Rooms, AllTested};
 
 use places::{is_clear, two_at};
+use plans::card::Slot;
 
-// The first `count` slots of `size` bytes from `from` on, and their lengths from `lens` on.
+// So many slots from the first on, one behind the other, as their lengths are.
 #[derive(Clone, Copy)]
 pub(crate) struct Rows {
-    pub(crate) from: usize,
-    pub(crate) size: usize,
-    pub(crate) lens: usize,
+    pub(crate) first: Slot,
     pub(crate) count: usize,
 }
 
@@ -26,12 +25,13 @@ pub(crate) fn clear_between(s: &[u8], a: usize, e: usize) -> bool
 
 // The bytes in slot i, if as many as its length says fit it, and it is zero behind them.
 fn text(s: &[u8], rows: Rows, i: usize) -> Option<&[u8]>
-    requires { Room rows.from rows.size rows.lens i s.now }
-    ensures { TextAt rows.from rows.size rows.lens s.now i result }
+    requires { Room rows.first.base rows.first.size rows.first.place i s.now }
+    ensures { TextAt rows.first.base rows.first.size rows.first.place s.now i result }
 {
-    let base = rows.from + rows.size * i;
-    let n = two_at(s, rows.lens + 2 * i);
-    if rows.size < n || !clear_between(s, base + n, base + rows.size) {
+    let Slot { base, size, place } = rows.first;
+    let base = base + size * i;
+    let n = two_at(s, place + 2 * i);
+    if size < n || !clear_between(s, base + n, base + size) {
         return None;
     }
     Some(&s[base..base + n])
@@ -45,9 +45,9 @@ pub(crate) fn all_pass<F: Fn(&[u8], &mut [u8], &mut [u8]) -> bool>(
     stack: &mut [u8],
     test: F,
 ) -> bool
-    requires rooms { Rooms rows.from rows.size rows.lens rows.count s.now }
+    requires rooms { Rooms rows.first.base rows.first.size rows.first.place rows.count s.now }
     requires callable { F.IsAlwaysCallable test }
-    ensures { AllTested (F.post test) rows.from rows.size rows.lens rows.count (length stack.old) s.now marks.old marks.new result }
+    ensures { AllTested (F.post test) rows.first.base rows.first.size rows.first.place rows.count (length stack.old) s.now marks.old marks.new result }
 {
     for i in 0..rows.count {
         let Some(t) = text(s, rows, i) else {

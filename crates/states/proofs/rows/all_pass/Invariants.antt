@@ -10,7 +10,7 @@ use Rattle.states.proofs.rows.all_pass.Given as goal
 abbrev pub invariant-loop-i : goal.invariant-loop-i
 invariant-loop-i g l =
     ((test : List ℕ → List ℕ → Bool) (left : List ℕ → List ℕ → List ℕ) → Tells (goal.F-post g l.test) (length l.initial.stack) test left
-    → Passing test left l.rows.from l.rows.size l.rows.lens l.s l.initial.marks l.marks l.i)
+    → Passing test left l.rows.first.base l.rows.first.size l.rows.first.place l.s l.initial.marks l.marks l.i)
     × (length l.stack ≡ length l.initial.stack)
     × (length l.marks ≡ length l.initial.marks)
     × (l.i ≤ l.rows.count)
