@@ -1,5 +1,5 @@
 -- The ways of the functions over a plan (`plan.rt`).
-use Rattle.std.specs.Prelude.{◌≡◌, Bool, true, false, List, ℕ, ◌<◌, ◌≤◌, length, take, drop}
+use Rattle.std.specs.Prelude.{◌≡◌, Bool, true, false, List, ℕ, ◌+◌, ◌*◌, ◌<◌, ◌≤◌, length, take, drop}
 use Rattle.std.proofs.Math.Path.{sym}
 use Rattle.std.proofs.Common.{ap, ◌∙◌, subst, arith}
 use Rattle.std.proofs.Math.Nat.{mul-le-mul_right}
@@ -8,10 +8,20 @@ use Rattle.laws.specs.Tests.{no_true}
 use Rattle.paper.specs.States.{Card, total, Fits}
 use Rattle.places.specs.Clear.{clear_bytes, clear_at, at_clear}
 use Rattle.plans.specs.ByteAt.{cells_from}
+use Rattle.plans.specs.Card.{thread_slot, cell_slot}
 use Rattle.states.specs.Decides.{Decides, denied, answered, instead}
 use Rattle.slots.specs.declared.sections.Counts.{Counts}
 use Rattle.states.specs.Rows.{ThreadRows, CellRows, marks_after, CellAt}
 use Rattle.states.specs.Tested.{HeaderOf, WithinOf, Unused, Ready, marks_of, Planned, PlannedOf, Tested}
+
+-- ---- where the slots begin
+
+pub threads_begin : (card : Card) → thread_slot card 0 ≡ record { base = 256; size = card.thread_bytes; place = 38 }
+threads_begin card = let e : 256 + card.thread_bytes * 0 ≡ 256 = omega arith in λ i. record { base = e i; size = card.thread_bytes; place = 38 }
+
+pub cells_begin : (card : Card) → cell_slot card 0 ≡ record { base = cells_from card; size = card.cell_bytes; place = 70 }
+cells_begin card =
+    let e : cells_from card + card.cell_bytes * 0 ≡ cells_from card = omega arith in λ i. record { base = e i; size = card.cell_bytes; place = 70 }
 
 -- ---- the parts of a plan
 

@@ -3,7 +3,6 @@ use Rattle.std.specs.Prelude.{◌≡◌, Bool, true, false, List, ℕ, ◌+◌, 
 use Rattle.std.proofs.Math.Path.{refl, ap}
 use Rattle.std.proofs.Common.{sym, ◌∙◌, subst, add-one, arith}
 use borrow.Author.Count.{below_more}
-use Rattle.paper.specs.Base.{word16}
 use Rattle.laws.specs.Tests.{no_true}
 use Rattle.places.specs.Clear.{clear_bytes, clear_range, range_clear}
 use Rattle.slots.specs.Slot.{cell_test}
@@ -12,16 +11,6 @@ use Rattle.states.specs.Rows.{Zeros, in_slot, Framed, left_after, PassesAt, AllP
 
 pub clear_decides : (s : List ℕ) (a e : ℕ) {r : Bool} → r ≡ clear_bytes (take (e - a) (drop a s)) → Decides r (Zeros a e s)
 clear_decides s a e q = answered q (record { yes = clear_range s a e; no = range_clear s a e })
-
-pub slot_part : (base place n : ℕ) (s : List ℕ) → n ≡ word16 s place → take (base + n - base) (drop base s) ≡ in_slot base place s
-slot_part base place n s says = ap (λ (x : ℕ). take x (drop base s)) (let e : base + n - base ≡ n = omega arith in e ∙ says)
-
-module _ {base size place : ℕ} {s : List ℕ} {n : ℕ} (says : n ≡ word16 s place) where
-  pub framed_by : n ≤ size → Zeros (base + n) (base + size) s → Framed base size place s
-  framed_by h z = record { fits = omega arith; rest = subst (λ (x : ℕ). Zeros (base + x) (base + size) s) says z }
-
-  pub zeros_by : Framed base size place s → Zeros (base + n) (base + size) s
-  zeros_by f = subst (λ (x : ℕ). Zeros (base + x) (base + size) s) (sym says) f.rest
 
 -- ---- slot after slot
 
@@ -43,9 +32,6 @@ module _ {test : List ℕ → List ℕ → Bool} {left : List ℕ → List ℕ �
           decides = decided (subst (λ (x : ℕ). (k : ℕ) → k < x → PassesAt test left from size lens s m₀ k) e w.each);
           marks = λ t. subst (λ (x : ℕ). m ≡ left_after left from size lens s m₀ x) e w.marks;
         }
-
-    pub unframed_stops : {n : ℕ} → i < n → (Framed (from + size * i) size (lens + 2 * i) s → ⊥) → {m' : List ℕ} → AllPass test left from size lens s n m₀ m' false
-    unframed_stops h f = record { decides = denied (λ p. f (p i h).framed); marks = λ t. no_true t }
 
     module _ {x : List ℕ} (is : x ≡ in_slot (from + size * i) (lens + 2 * i) s) {r : Bool} (says : r ≡ test x m) where
       here : r ≡ test (in_slot (from + size * i) (lens + 2 * i) s) (left_after left from size lens s m₀ i)

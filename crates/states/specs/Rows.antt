@@ -1,7 +1,7 @@
 -- The used slots of a buffer, as tests of its bytes: each says a length that fits it, is zero behind that, and passes the tests of crate
 -- `slots`. What they mean on terms is in `FromTests` and `ToTests`.
 use Rattle.std.specs.Prelude.{◌≡◌, Bool, true, List, [], Option, MatchOption, ℕ, zero, suc, ◌+◌, ◌*◌, ◌<◌, ◌≤◌, length, take, drop}
-use Rattle.std.proofs.Common.{Bor}
+use Rattle.std.proofs.Common.{Bor, MutBor}
 use Rattle.paper.specs.Base.{at, word16}
 use Rattle.slots.specs.Slot.{thread_test, thread_marks, cell_test}
 use Rattle.states.specs.Decides.{Decides}
@@ -60,6 +60,18 @@ module _ (test : List ℕ → List ℕ → Bool) (left : List ℕ → List ℕ �
   pub record AllPass (n : ℕ) (m m' : List ℕ) (r : Bool) : Type 0 where
     pub decides : Decides r ((i : ℕ) → i < n → PassesAt m i)
     pub marks : r ≡ true → m' ≡ left_after left from size lens s m n
+
+-- what a lent test answers, and leaves of the marks, with a stack of `room` bytes
+abbrev pub Tells : (Bor (List ℕ) → MutBor (List ℕ) → MutBor (List ℕ) → Bool → MutBor (List ℕ) → MutBor (List ℕ) → Type 0) → ℕ
+    → (List ℕ → List ℕ → Bool) → (List ℕ → List ℕ → List ℕ) → Type 0
+Tells post room test left =
+    (x : Bor (List ℕ)) (m st : MutBor (List ℕ)) (r : Bool) (m' st' : MutBor (List ℕ)) → length st.now ≡ room → post x m st r m' st'
+    → (r ≡ test x.now m.now) × (m'.now ≡ left x.now m.now)
+
+abbrev pub AllTested : (Bor (List ℕ) → MutBor (List ℕ) → MutBor (List ℕ) → Bool → MutBor (List ℕ) → MutBor (List ℕ) → Type 0)
+    → (from size lens n room : ℕ) → List ℕ → List ℕ → List ℕ → Bool → Type 0
+AllTested post from size lens n room s m m' r =
+    (test : List ℕ → List ℕ → Bool) (left : List ℕ → List ℕ → List ℕ) → Tells post room test left → AllPass test left from size lens s n m m' r
 
 module _ (from size lens room nl nc : ℕ) (s : List ℕ) where
   -- the marks that the first i threads leave

@@ -5,12 +5,13 @@ ghost use Rattle.plans.specs.Card.{card_of};
 ghost use Rattle.states.specs.Decides.{Decides};
 ghost use Rattle.states.specs.Tested.{HeaderOf, WithinOf, UnusedOf, ReadyOf, PlannedOf, Tested};
 
-use crate::rows::{Rows, are_cells, are_threads, clear_between};
+use crate::rows::{Rows, all_pass, clear_between};
 use places::{byte_at, is_clear, two_at};
 use plans::card::Card;
-use slots::sections::Counts;
+use slots::sections::{Counts, cell_slot, thread_slot};
 
 // Whether the first six bytes are those of a plan of the card, with counts within it.
+#[tactic(auto, unfolding(paper::specs::States::total))]
 fn is_header(s: &[u8], card: Card) -> bool
     ensures { Decides result (HeaderOf (card_of card) s.now) }
 {
@@ -56,22 +57,29 @@ fn is_plan(
     requires { ReadyOf (card_of card) threads counts s.now marks.old }
     ensures { Decides result (PlannedOf (card_of card) threads counts (length stack.old) s.now) }
 {
-    let thread_rows = Rows {
-        from: 256,
-        size: card.thread_bytes,
-        lens: 38,
+    let threads_in = Rows {
+        first: card.thread(0),
         count: threads,
     };
-    let cell_rows = Rows {
-        from: card.cells_start(),
-        size: card.cell_bytes,
-        lens: 70,
+    let cells_in = Rows {
+        first: card.cell(0),
         count: counts.cells,
     };
     copy_marks(s, marks);
-    are_threads(s, thread_rows, counts, marks, stack)
-        && is_clear(marks)
-        && are_cells(s, cell_rows, counts, stack)
+    all_pass(
+        s,
+        threads_in,
+        marks,
+        stack,
+        |t, marks, stack| thread_slot(t, counts, marks, stack),
+    ) && is_clear(marks)
+        && all_pass(
+            s,
+            cells_in,
+            marks,
+            stack,
+            |t, _, stack| cell_slot(t, counts, stack),
+        )
         && is_unused(s, card, threads, counts)
 }
 

@@ -2,21 +2,20 @@
 // is as long as the longest slot.
 ghost use Rattle.std.specs.Prelude.{◌+◌, ◌≤◌, ◌<◌, length};
 ghost use Rattle.states.specs.Decides.{Decides};
-ghost use Rattle.states.specs.Rows.{Zeros, TextAt, Room, Rooms, ThreadRows, CellRows};
+ghost use Rattle.states.specs.Rows.{Zeros, TextAt, Room, Rooms, AllTested};
 
 use places::{is_clear, two_at};
-use slots::sections::{Counts, cell_slot, thread_slot};
+use plans::card::Slot;
 
-// The first `count` slots of `size` bytes from `from` on, and their lengths from `lens` on.
+// So many slots from the first on, one behind the other, as their lengths are.
 #[derive(Clone, Copy)]
 pub(crate) struct Rows {
-    pub(crate) from: usize,
-    pub(crate) size: usize,
-    pub(crate) lens: usize,
+    pub(crate) first: Slot,
     pub(crate) count: usize,
 }
 
 // Whether there is no byte but 0 from place a up to e.
+#[tactic(auto, using(crate::specs::RowWays::clear_decides))]
 pub(crate) fn clear_between(s: &[u8], a: usize, e: usize) -> bool
     requires { (a ≤ e) × (e ≤ length s.now) }
     ensures { Decides result (Zeros a e s.now) }
@@ -26,49 +25,35 @@ pub(crate) fn clear_between(s: &[u8], a: usize, e: usize) -> bool
 
 // The bytes in slot i, if as many as its length says fit it, and it is zero behind them.
 fn text(s: &[u8], rows: Rows, i: usize) -> Option<&[u8]>
-    requires { Room rows.from rows.size rows.lens i s.now }
-    ensures { TextAt rows.from rows.size rows.lens s.now i result }
+    requires { Room rows.first.base rows.first.size rows.first.place i s.now }
+    ensures { TextAt rows.first.base rows.first.size rows.first.place s.now i result }
 {
-    let base = rows.from + rows.size * i;
-    let n = two_at(s, rows.lens + 2 * i);
-    if rows.size < n || !clear_between(s, base + n, base + rows.size) {
+    let Slot { base, size, place } = rows.first;
+    let base = base + size * i;
+    let n = two_at(s, place + 2 * i);
+    if size < n || !clear_between(s, base + n, base + size) {
         return None;
     }
     Some(&s[base..base + n])
 }
 
-// Whether the slots hold threads, whose open sections take the locks' marks away.
-pub(crate) fn are_threads(
+// Whether the bytes in each slot pass the test, which is lent the marks and the stack.
+pub(crate) fn all_pass<F: Fn(&[u8], &mut [u8], &mut [u8]) -> bool>(
     s: &[u8],
     rows: Rows,
-    counts: Counts,
     marks: &mut [u8],
     stack: &mut [u8],
+    test: F,
 ) -> bool
-    requires { Rooms rows.from rows.size rows.lens rows.count s.now }
-    ensures { ThreadRows rows.from rows.size rows.lens rows.count (length stack.old) counts.locks counts.cells s.now marks.old marks.new result }
+    requires rooms { Rooms rows.first.base rows.first.size rows.first.place rows.count s.now }
+    requires callable { F.IsAlwaysCallable test }
+    ensures { AllTested (F.post test) rows.first.base rows.first.size rows.first.place rows.count (length stack.old) s.now marks.old marks.new result }
 {
     for i in 0..rows.count {
         let Some(t) = text(s, rows, i) else {
             return false;
         };
-        if !thread_slot(t, counts, marks, stack) {
-            return false;
-        }
-    }
-    true
-}
-
-// Whether the slots hold cells' values.
-pub(crate) fn are_cells(s: &[u8], rows: Rows, counts: Counts, stack: &mut [u8]) -> bool
-    requires { Rooms rows.from rows.size rows.lens rows.count s.now }
-    ensures { CellRows rows.from rows.size rows.lens rows.count (length stack.old) counts.locks counts.cells s.now result }
-{
-    for i in 0..rows.count {
-        let Some(t) = text(s, rows, i) else {
-            return false;
-        };
-        if !cell_slot(t, counts, stack) {
+        if !test(t, marks, stack) {
             return false;
         }
     }
