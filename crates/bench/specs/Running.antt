@@ -1,10 +1,12 @@
 -- The two runs for C: each of their numbers is a word.
-use Rattle.std.specs.Prelude.{◌≡◌, List, ℕ}
+use Rattle.std.specs.Prelude.{◌≡◌, refl, List, ℕ, Result, Err}
 use Rattle.std.proofs.Common.{sym, ap, ◌∙◌}
 use Rattle.paper.specs.States.{sixteen}
 use Rattle.paper.specs.Calls.{RunCall, run_call, DefaultCall, default_call}
 use Rattle.paper.specs.Cases.{DefaultTold, told_default}
-use Rattle.machine.specs.declared.default_run.DefaultRun.{DefaultRun}
+use Rattle.states.specs.declared.Unfit.{Unfit}
+use Rattle.states.specs.declared.Unfit.TheVariants.{BufferShort, NoState}
+use Rattle.states.specs.Unfit.{number}
 use Rattle.machine.specs.DefaultCalls.{case_of, DefaultRuns}
 
 -- the state buffer after the call (s') from that before it (s), and the numbers written
@@ -29,8 +31,14 @@ default_runs_c_unique a b =
     (ap (λ (x : DefaultCall). x.steps) e, ap (λ (x : DefaultCall). x.answer) e, ap (λ (x : DefaultCall). x.state) e)
 
 -- what the default run tells, by its case
-pub ran : {s : List ℕ} {limit : ℕ} {s' : List ℕ} {d given : DefaultRun} {steps r : ℕ} → DefaultRuns sixteen s limit s' d → d ≡ given
+pub ran : {s : List ℕ} {limit : ℕ} {s' : List ℕ} {d given : Result ℕ Unfit} {steps r : ℕ} → DefaultRuns sixteen s limit s' d → d ≡ given
     → told_default (case_of given) ≡ record { answer = r; steps = steps } → DefaultRunsC s limit s' steps r
 ran {s' = s'} {d = d} {steps = steps} {r = r} l e t =
     let q : told_default (case_of d) ≡ record { answer = r; steps = steps } = ap (λ x. told_default (case_of x)) e ∙ t in
     record { says = l.says ∙ ap (λ (x : DefaultTold). record { answer = x.answer; steps = x.steps; state = s' }) q }
+
+-- a refusal's number, and no steps
+pub refusal_told : (u : Unfit) → told_default (case_of (Err u)) ≡ record { answer = number u; steps = 0 }
+unfolding told_default
+refusal_told BufferShort = refl
+refusal_told NoState = refl

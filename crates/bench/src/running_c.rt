@@ -1,8 +1,6 @@
 // The two runs. Their parts are whole words, so they are written through references.
 ghost use Rattle.bench.specs.Running.{RunsC, DefaultRunsC};
 
-use machine::default_run::DefaultRun;
-
 pub fn laverockin_run(state: &mut [u8], schedule: &[u8], steps: &mut u64, last: &mut u64)
     ensures { RunsC state.old schedule.now state.new steps.new last.new }
 {
@@ -15,17 +13,13 @@ pub fn laverockin_default_run(state: &mut [u8], limit: u64, steps: &mut u64) -> 
     ensures { DefaultRunsC state.old limit state.new steps.new result }
 {
     match machine::default_run::default_run(state, limit) {
-        DefaultRun::Ran(n) => {
+        Ok(n) => {
             *steps = n;
             0
         }
-        DefaultRun::BufferShort => {
+        Err(unfit) => {
             *steps = 0;
-            1
-        }
-        DefaultRun::NoState => {
-            *steps = 0;
-            18
+            unfit.number() as u64
         }
     }
 }

@@ -6,23 +6,20 @@ ghost use Rattle.laws.specs.Numbers.{Small};
 ghost use Rattle.bench.specs.Stepping.{packed, StepsC};
 
 use crate::pack::below;
-use machine::step::Step;
+use machine::answer::{Made, NoStep};
+use machine::numbers::answer_of;
 
 // Above the number of the answer: the kind in bits 8 to 15, and above it the number.
-fn pack(answer: Step) -> u64
+fn pack(answer: Result<Made, NoStep>) -> u64
     requires { Small (told (case_of answer)) }
     ensures { result ≡ packed (told (case_of answer)) }
 {
     match answer {
-        Step::Made(kind, number) => below(0, below(kind, number as u64)),
-        Step::BufferShort => 1,
-        Step::NoState => 18,
-        Step::NoSuchThread => 19,
-        Step::IsFinished => 20,
-        Step::WaitsFor(lock) => below(21, below(0, lock as u64)),
-        Step::IsStuck => 22,
-        Step::TooMany => 23,
-        Step::TooLong => 24,
+        Ok(made) => below(0, below(made.kind.number(), made.number as u64)),
+        Err(why) => match why {
+            NoStep::WaitsFor(lock) => below(21, below(0, lock as u64)),
+            _ => answer_of(answer) as u64,
+        },
     }
 }
 

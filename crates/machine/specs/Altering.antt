@@ -15,7 +15,7 @@ use Rattle.plans.specs.Changing.{Else, Named}
 use Rattle.machine.specs.declared.act.Also.{Also}
 use Rattle.machine.specs.declared.act.Also.TheVariants.{Nothing, NewCell, SetCell, NewLock, Taken, Released, NewThread}
 use Rattle.slots.specs.Put.{piece}
-use Rattle.machine.specs.Means.{Cut, part_bytes, part_cut, Changes}
+use Rattle.machine.specs.Means.{part_bytes, part_cut, Changes}
 use Rattle.machine.specs.Means.{is_nothing, is_new_cell, is_set_cell, is_new_lock, is_taken, is_released, is_new_thread}
 
 -- what `store` does with the slot of thread i, and with that of cell j
@@ -62,59 +62,17 @@ module _ {card : Card} {state s : List ℕ} {also : Also} (fits : Fits card) (w 
   sound : Sound card w.held
   sound = good_sound card w.held w.holds.state
 
-  pub new_cell_cut : also ≡ NewCell → Cut s 1 (length s)
-  new_cell_cut e = go (said e)
-    where
-      go : {c : Change} → Changes card w.held s NewCell c → Cut s 1 (length s)
-      go (is_new_cell r k x) = part_cut x
-
   pub new_cell_few : also ≡ NewCell → at state 4 < 255
   new_cell_few e = go (said e)
     where
       go : {c : Change} → Changes card w.held s NewCell c → at state 4 < 255
       go (is_new_cell r k x) = omega (arith, cells_read card fits state w.held w.holds, fits.cells)
 
-  pub set_cell_cut : {j a : ℕ} → also ≡ SetCell j a → Cut s a (length s)
-  set_cell_cut {j} {a} e = go (said e)
-    where
-      go : {c : Change} → Changes card w.held s (SetCell j a) c → Cut s a (length s)
-      go (is_set_cell k x) = part_cut x
-
-  pub set_cell_low : {j a : ℕ} → also ≡ SetCell j a → j < 256
-  set_cell_low {j} {a} e = go (said e) w.named
-    where
-      go : {c : Change} → Changes card w.held s (SetCell j a) c → Named w.held c → j < 256
-      go (is_set_cell k x) n = omega (arith, n, sound.cells, fits.cells)
-
   pub new_lock_few : also ≡ NewLock → at state 5 < 255
   new_lock_few e = go (said e)
     where
       go : {c : Change} → Changes card w.held s NewLock c → at state 5 < 255
       go (is_new_lock r) = omega (arith, locks_read card fits state w.held w.holds, fits.locks)
-
-  pub taken_low : {l : ℕ} → also ≡ Taken l → l < 256
-  taken_low {l} e = go (said e) w.named
-    where
-      go : {c : Change} → Changes card w.held s (Taken l) c → Named w.held c → l < 256
-      go is_taken n = omega (arith, n, sound.marks, fits.locks)
-
-  pub released_low : {l : ℕ} → also ≡ Released l → l < 256
-  released_low {l} e = go (said e) w.named
-    where
-      go : {c : Change} → Changes card w.held s (Released l) c → Named w.held c → l < 256
-      go is_released n = omega (arith, n, sound.marks, fits.locks)
-
-  pub new_thread_cut : {i : ℕ} → also ≡ NewThread i → Cut s 1 (length s)
-  new_thread_cut {i} e = go (said e)
-    where
-      go : {c : Change} → Changes card w.held s (NewThread i) c → Cut s 1 (length s)
-      go (is_new_thread r x) = part_cut x
-
-  pub new_thread_few : {i : ℕ} → also ≡ NewThread i → i < 255
-  new_thread_few {i} e = go (said e)
-    where
-      go : {c : Change} → Changes card w.held s (NewThread i) c → i < 255
-      go (is_new_thread r x) = omega (arith, fits.threads)
 
 -- ---- the stores
 

@@ -1,5 +1,5 @@
 -- The contract of the step on a buffer that holds a state, and what its parts are handed.
-use Rattle.std.specs.Prelude.{◌≡◌, ℕ, ◌*◌, ◌<◌, ◌≤◌, false, List, length, slice_index_or, refl, Ok, Err}
+use Rattle.std.specs.Prelude.{◌≡◌, ℕ, ◌<◌, ◌≤◌, false, List, length, slice_index_or, refl, Ok, Err}
 use Rattle.std.proofs.Common.{sym, ap, ◌∙◌}
 use Rattle.paper.specs.Terms.{Term, term_bytes, value}
 use Rattle.paper.specs.States.{State, Card, Holds, Fits}
@@ -67,11 +67,10 @@ pub record Held (card : Card) (state : List ℕ) : Type 0 where
   pub holds : Holds card state held
 
 -- the buffer holds a state, thread i of it is no value, and the part of it that is due has the bytes s
-pub record Running (card : Card) (state : List ℕ) (i : ℕ) (d : Due) (s out stack : List ℕ) : Type 0 where
+pub record Running (card : Card) (state : List ℕ) (i : ℕ) (d : Due) (s out : List ℕ) : Type 0 where
   pub base : Held card state
   pub here : i < length base.held.threads
   pub going : value (slice_index_or base.held.threads i Term.unit) ≡ false
   pub parted : Parted (term_bytes (slice_index_or base.held.threads i Term.unit)) d
   pub bytes : s ≡ term_bytes (found (slice_index_or base.held.threads i Term.unit)).redex
   pub room : card.thread_bytes ≤ length out
-  pub deep : 2 * card.thread_bytes ≤ length stack

@@ -1,12 +1,13 @@
 -- Where the parts of the part that makes the step stand, by the code: within its bytes, so that they can be lent.
-use Rattle.std.specs.Prelude.{◌≡◌, ℕ, ◌<◌, List, length, Option, Some, slice_index, slice_index_or}
+use Rattle.std.specs.Prelude.{◌≡◌, ℕ, ◌<◌, ◌≤◌, List, length, Option, Some, slice_index, slice_index_or}
 use Rattle.std.proofs.Math.Path.{refl}
 use Rattle.std.proofs.Common.{sym, ◌∙◌, arith}
 use Rattle.paper.specs.Terms.{Term, term_bytes}
 use Rattle.slots.specs.Walk.{skip_of}
-use Rattle.slots.specs.Coded.{Coded, coded_by, is_app, is_cell, is_read, is_write}
+use Rattle.slots.specs.Coded.{Coded, coded_by, is_app, is_read, is_write}
 use Rattle.slots.specs.Coded.{is_newlock, is_sync, is_bind, is_seq, is_add, is_cond, is_inside}
-use Rattle.machine.specs.Means.{Cut, Cut2, Cut3, Part, part_cut}
+use Rattle.machine.specs.Cuts.{Cut, Cut2, Cut3}
+use Rattle.machine.specs.Means.{Part, part_cut}
 use Rattle.machine.specs.Parts.{part_first}
 use Rattle.machine.specs.Inner.{one_part, two_parts, three_parts, section_part}
 
@@ -19,10 +20,10 @@ pub record Redex (s : List ℕ) (second : Option ℕ) : Type 0 where
   pub term : Term
   pub there : Part s 0 (length s) term
   pub begins : Second s second
+  pub short : length s ≤ 2048
 
 -- the codes of one part that is looked at, and of two
 pub data One : ℕ → Type 0 where
-  of_cell : One 6
   of_read : One 7
   of_newlock : One 10
 
@@ -43,7 +44,6 @@ module _ {s : List ℕ} {second : Option ℕ} (r : Redex s second) where
   one_cut {c} k e = go k r.there (coded c e)
     where
       go : {c : ℕ} {t : Term} → One c → Part s 0 (length s) t → Coded c t → Cut s 1 (length s)
-      go {t = t} of_cell h (is_cell a) = part_cut (one_part 6 t h a refl)
       go {t = t} of_read h (is_read a) = part_cut (one_part 7 t h a refl)
       go {t = t} of_newlock h (is_newlock a) = part_cut (one_part 10 t h a refl)
 
@@ -67,10 +67,6 @@ module _ {s : List ℕ} {second : Option ℕ} (r : Redex s second) where
       go {t = t} of_bind h (is_bind a b) = cut_both (two_parts 12 t h f a b refl)
       go {t = t} of_seq h (is_seq a b) = cut_both (two_parts 13 t h f a b refl)
       go {t = t} of_add h (is_add a b) = cut_both (two_parts 14 t h f a b refl)
-
-  -- the first of two parts, or of three, ends where the code looks for the second
-  pub two_stands : {c : ℕ} → Two c → slice_index s 0 ≡ c → 1 < skip_of s 1
-  two_stands k e = (two_cut k e refl).first
 
   pub cond_cut : {g k : ℕ} → slice_index s 0 ≡ 15 → g ≡ skip_of s 1 → k ≡ skip_of s g → Cut3 s 1 g k (length s)
   unfolding term_bytes

@@ -14,7 +14,7 @@ use Rattle.laws.specs.CallLaws.{laid_holds, default_call_lem, default_short, def
 use Rattle.laws.specs.CaseLaws.{default_injective}
 use Rattle.laws.specs.RunLaws.{laid_laid, laid_same, good_lowest, good_default}
 use Rattle.plans.specs.ByteAt.{holds_long}
-use Rattle.states.specs.IsState.{is_state, not_state_lem}
+use Rattle.states.specs.IsState.{not_state_lem}
 use Rattle.states.specs.Unfit.{Why}
 use Rattle.states.specs.declared.Unfit.{Unfit}
 use Rattle.states.specs.declared.Unfit.TheVariants.{BufferShort, NoState}

@@ -5,14 +5,14 @@ use Rattle.std.proofs.Math.Path.{refl, sym, ap}
 use Rattle.std.proofs.Common.{◌∙◌, subst, arith}
 use Rattle.paper.specs.Terms.{Term, term_bytes}
 use Rattle.slots.specs.Walk.{skip_of}
-use Rattle.slots.specs.Found.{found_some}
+use Rattle.slots.specs.Answer.{nonzero_some}
 use Rattle.slots.specs.Put.{piece}
 use Rattle.slots.specs.Way.{place_of, second_at, Place}
 use Rattle.slots.specs.WayTerm.{found}
 use Rattle.slots.specs.WaySecond.{second_end, second_alone}
 use Rattle.slots.specs.Moves.{redex_at, redex_end}
 use Rattle.machine.specs.declared.step.Due.{Due}
-use Rattle.machine.specs.Means.{Cut, Part, part_bytes, part_cut}
+use Rattle.machine.specs.Means.{Part, part_bytes, part_cut}
 use Rattle.machine.specs.Cutting.{Second}
 
 -- a term fills the bytes
@@ -52,7 +52,7 @@ module _ {s : List ℕ} (w : Whole s) {p : ℕ} {second : Option ℕ} (h : Place
 
   module _ {e : ℕ} (is : second ≡ Some e) where
     there : (e ≡ second_at s p) × (0 < e)
-    there = found_some (second_at s p) e (sym is ∙ h.second)
+    there = nonzero_some (second_at s p) e (sym is ∙ h.second)
 
     some : second_at s p ≡ 0 → ⊥
     some z = omega (arith, there)
@@ -87,7 +87,3 @@ module _ {s : List ℕ} (w : Whole s) {p : ℕ} {second : Option ℕ} (h : Place
     }
 
 -- it stands within the thread
-pub parted_cut : {s : List ℕ} {d : Due} → Whole s → Parted s d → Cut s d.from d.to
-parted_cut {s} {d} w h =
-    subst (λ z. Cut z d.from d.to) (sym w.bytes)
-    (part_cut (due_part w.term (h.from ∙ ap place_of w.bytes) (h.to ∙ ap (λ z. skip_of z d.from) w.bytes)))

@@ -146,9 +146,9 @@ module _ {card : Card} {state : List ℕ} (w : Held card state) {i count : ℕ} 
           pub held_all : r ≤ 2048
           held_all = let all = (all_of y l (let p = part_cut there in let t = there.to in let s = w.short in omega (arith, slot.fits))).0 in omega arith
 
-          pub held_running : {v : Bool} {out stack : List ℕ} → v ≡ is_value (slice_index state (256 + card.thread_bytes * i)) → v ≡ false
-              → length out ≡ 2048 → length stack ≡ 4096 → Running card state i d (take r old) out stack
-          held_running v e o k =
+          pub held_running : {v : Bool} {out : List ℕ} → v ≡ is_value (slice_index state (256 + card.thread_bytes * i)) → v ≡ false
+              → length out ≡ 2048 → Running card state i d (take r old) out
+          held_running v e o =
               let s = w.short in
               record {
                 base = w;
@@ -157,5 +157,4 @@ module _ {card : Card} {state : List ℕ} (w : Held card state) {i count : ℕ} 
                 parted = parted;
                 bytes = (all_of y l (let k = part_cut there in let t = there.to in omega (arith, slot.fits))).1;
                 room = omega arith;
-                deep = omega arith;
               }

@@ -1,5 +1,6 @@
 -- ---- what the code's answers mean
 pub mod Answer
+pub mod Cuts
 pub mod Fitting
 pub mod Means
 pub mod Skipping

@@ -12,6 +12,7 @@ use Rattle.paper.specs.Calls.{laid}
 use Rattle.slots.specs.Put.{piece}
 use Rattle.writing.specs.Written.{Written, written_fits, written_behind, stands_none, room_for}
 use Rattle.slots.specs.TermAt.{some_bytes, stands}
+use Rattle.machine.specs.Cuts.{Cut}
 use Rattle.machine.specs.Answer.{kind_number}
 use Rattle.machine.specs.declared.answer.Kind.{Kind}
 use Rattle.machine.specs.declared.answer.NoStep.{NoStep}
@@ -22,30 +23,9 @@ use Rattle.machine.specs.declared.act.Also.TheVariants.{Nothing, NewCell, SetCel
 
 -- ---- places
 
--- one, two or three parts that stand one after another
-pub record Cut (s : List ℕ) (a b : ℕ) : Type 0 where
-  pub some : a < b
-  pub inside : b ≤ length s
-
-pub record Cut2 (s : List ℕ) (a b c : ℕ) : Type 0 where
-  pub first : a < b
-  pub second : b < c
-  pub inside : c ≤ length s
-
-pub record Cut3 (s : List ℕ) (a b c d : ℕ) : Type 0 where
-  pub first : a < b
-  pub second : b < c
-  pub third : c < d
-  pub inside : d ≤ length s
-
 -- the lent stack is long enough for a pass over any part of s
 pub record Short (s stack : List ℕ) : Type 0 where
   pub long : 2 * length s ≤ length stack
-
--- where the cells' slots are, and how large: their places are numbers of the machine
-pub record Sized (from size : ℕ) : Type 0 where
-  pub low : from < 16777216
-  pub small : size < 65536
 
 -- the term v stands from a up to b
 pub record Part (s : List ℕ) (a b : ℕ) (v : Term) : Type 0 where

@@ -1,5 +1,5 @@
 -- The public step's contract: the paper's call on the card of document 01, and one law for each way out of it.
-use Rattle.std.specs.Prelude.{◌≡◌, ℕ, ◌<◌, ◌≤◌, true, false, List, length, Err}
+use Rattle.std.specs.Prelude.{◌≡◌, ℕ, true, List, Err}
 use Rattle.std.proofs.Common.{arith}
 use Rattle.paper.specs.States.{sixteen}
 use Rattle.laws.specs.StateBytes.{state_holds}

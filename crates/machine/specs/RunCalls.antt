@@ -10,7 +10,7 @@ use Rattle.paper.specs.Calls.{StepCall, step_call, RunCall, call_all, run_call}
 use Rattle.paper.specs.Cases.{told}
 use Rattle.laws.specs.Cards.{sixteen_total}
 use Rattle.laws.specs.CallLaws.{step_short, step_foreign}
-use Rattle.states.specs.IsState.{is_state, not_state_lem}
+use Rattle.states.specs.IsState.{not_state_lem}
 use Rattle.states.specs.Unfit.{Why}
 use Rattle.states.specs.declared.Unfit.{Unfit}
 use Rattle.states.specs.declared.Unfit.TheVariants.{BufferShort, NoState}

@@ -7,12 +7,11 @@ use Rattle.std.proofs.Math.ListN.{length-append}
 use Rattle.paper.specs.Terms.{Term, term_bytes, value}
 use Rattle.paper.specs.Evaluation.{placed}
 use Rattle.paper.specs.States.{State, Card, Holds, Fits}
-use Rattle.paper.specs.Steps.{Change, Move, waits, stuck, full, long, goes, in_place, move}
+use Rattle.paper.specs.Steps.{Change, Move, goes, in_place, move}
 use Rattle.paper.specs.Cases.{told}
 use Rattle.laws.specs.Lists.{all_get, spliced}
 use Rattle.laws.specs.Good.{good_whole}
 use Rattle.laws.specs.Keeping.{here_at}
-use Rattle.laws.specs.StateBytes.{good_sound}
 use Rattle.places.specs.Cases.{side}
 use Rattle.plans.specs.Reads.{Filled, thread_read}
 use Rattle.plans.specs.Store.{Stores}
@@ -24,12 +23,12 @@ use Rattle.slots.specs.Walk.{skip_of}
 use Rattle.slots.specs.WayTerm.{found}
 use Rattle.slots.specs.Moves.{found_move, replaced}
 use Rattle.machine.specs.declared.act.Goes.{Goes}
-use Rattle.machine.specs.declared.act.Also.{Also}
 use Rattle.machine.specs.declared.answer.NoStep.{NoStep}
 use Rattle.machine.specs.declared.step.Due.{Due}
 use Rattle.machine.specs.declared.answer.NoStep.TheVariants.{TooLong}
 use Rattle.machine.specs.Answer.{kind_number}
-use Rattle.machine.specs.Means.{Short, Cut, Part, part_bytes, part_cut, Became, Changes, Act, Means, is_stuck, is_full, is_long, is_waits, is_goes}
+use Rattle.machine.specs.Cuts.{Cut}
+use Rattle.machine.specs.Means.{Part, part_bytes, part_cut, Became, Changes, Act, Means, is_stuck, is_full, is_long, is_waits, is_goes}
 use Rattle.machine.specs.Cutting.{Redex}
 use Rattle.machine.specs.Acting.{Acts}
 use Rattle.machine.specs.Altering.{Altering, Alters}
@@ -49,7 +48,7 @@ module _ {card : Card} {S : State} {s : List ℕ} {room : ℕ} {out : List ℕ} 
   went : {g : Goes} {m : Move} → Means card S s room out (Ok g) m → Went card S s room out g m
   went (is_goes {x = x} {c = c} b h) = record { term = x; change = c; move_is = refl; became = b; changes = h }
 
-module _ {card : Card} {state : List ℕ} {i : ℕ} {d : Due} {s buffer stack : List ℕ} (w : Running card state i d s buffer stack) where
+module _ {card : Card} {state : List ℕ} {i : ℕ} {d : Due} {s buffer : List ℕ} (w : Running card state i d s buffer) where
   S : State
   S = w.base.held
 
@@ -101,12 +100,6 @@ module _ {card : Card} {state : List ℕ} {i : ℕ} {d : Due} {s buffer stack : 
   pub part_rest : d.used - length s ≤ card.thread_bytes
   part_rest = omega (arith, thread_fits)
 
-  pub part_short : Short s stack
-  part_short = record { long = omega (arith, part_fits, thread_fits, w.deep) }
-
-  pub thread_low : i < 256
-  thread_low = omega (arith, here, (good_sound card S holds.state).threads, fits.threads)
-
   alone : Part s 0 (length s) redex
   alone = record {
     rest = [];
@@ -119,6 +112,7 @@ module _ {card : Card} {state : List ℕ} {i : ℕ} {d : Due} {s buffer stack : 
   run_redex = record {
     term = redex;
     there = alone;
+    short = let h = w.base.short in omega (arith, part_fits, thread_fits);
     begins = λ e x. w.parted.begins e x ∙ ap (λ z. skip_of z 1) (part_bytes there ∙ sym bytes);
   }
 
@@ -221,9 +215,6 @@ module _ {card : Card} {state : List ℕ} {i : ℕ} {d : Due} {s buffer stack : 
       module _ (l : g.size ≤ card.thread_bytes - (d.used - length s)) where
         room : g.size ≤ length buffer
         room = let o = w.room in omega arith
-
-        pub run_room : length out ≡ length buffer → g.size ≤ length out
-        run_room e = subst (λ k. g.size ≤ k) (sym e) room
 
         pub run_made : {between left : List ℕ} → length between ≡ length state → Alters card s g.also state between
             → Exchanges (256 + card.thread_bytes * i) d.used (38 + 2 * i) d.from d.to (take g.size out) between left

@@ -1,16 +1,12 @@
 -- Where an expression stands, `skip` answers the place after it.
-use Rattle.std.specs.Prelude.{◌≡◌, ℕ, zero, suc, ◌<◌, List, Option, Some, IsSome, refl}
-use Rattle.std.proofs.Common.{sym, ◌∙◌, subst, arith}
-use Rattle.slots.specs.Found.{found, found_some}
-use Rattle.slots.specs.Walk.{skip_of, Skipped}
+use Rattle.std.specs.Prelude.{◌≡◌, ℕ, ◌<◌, List, Option, Some, None, IsSome, refl}
+use Rattle.std.proofs.Common.{◌∙◌, arith}
+use Rattle.slots.specs.Walk.{skip_of, Skipped, skipped_some, skipped_none}
 
-found_more : (n : ℕ) → 0 < n → IsSome (found n)
-found_more zero h = absurd (omega arith)
-found_more (suc n) h = refl
+pub skip_some : {s : List ℕ} {at : ℕ} {r : Option ℕ} → Skipped s at r → 0 < skip_of s at → IsSome r
+skip_some {r = Some e} a h = refl
+skip_some {r = None} a h = absurd (omega (arith, skipped_none a))
 
-module _ {s : List ℕ} {at : ℕ} {r : Option ℕ} (a : Skipped s at r) where
-  pub skip_some : 0 < skip_of s at → IsSome r
-  skip_some h = subst IsSome (sym a.says) (found_more (skip_of s at) h)
-
-  pub skip_is : {e : ℕ} → r ≡ Some e → e ≡ skip_of s at
-  skip_is {e} z = (found_some (skip_of s at) e (sym z ∙ a.says)).0
+pub skip_is : {s : List ℕ} {at : ℕ} {r : Option ℕ} → Skipped s at r → {e : ℕ} → r ≡ Some e → e ≡ skip_of s at
+skip_is {r = Some d} a {e} z = let q : e ≡ d = cc in q ∙ (skipped_some a).0
+skip_is {r = None} a z = cc

@@ -10,11 +10,11 @@ use crate::answer::{Kind, Made, NoStep};
 pub(crate) enum Also {
     Nothing,
     NewCell,
-    SetCell(usize, usize),
+    SetCell(u8, usize),
     NewLock,
-    Taken(usize),
-    Released(usize),
-    NewThread(usize),
+    Taken(u8),
+    Released(u8),
+    NewThread(u8),
 }
 
 // What the part at the place of evaluation does: what the step answers, how many bytes the part becomes (or one more than there is room for),

@@ -10,23 +10,19 @@ use places::{byte_at, put_byte};
 use plans::card::Card;
 use plans::store::store;
 
-fn set_cell(state: &mut [u8], card: Card, j: usize, bytes: &[u8])
-    requires j_bound { j < 256 }
+fn set_cell(state: &mut [u8], card: Card, j: u8, bytes: &[u8])
     ensures { CellPut (card_of card) j bytes.now state.old state.new }
 {
-    let from = card.cells_start();
-    let size = card.cell_bytes;
-    store(state, from + size * j, size, 70 + 2 * j, bytes);
+    store(state, card.cell(j), bytes);
 }
 
 // The next thread or cell: its slot, then the count.
-fn new_thread(state: &mut [u8], card: Card, i: usize, bytes: &[u8])
+fn new_thread(state: &mut [u8], card: Card, i: u8, bytes: &[u8])
     requires i_bound { i < 255 }
     ensures { ThreadAdded (card_of card) i bytes.now state.old state.new }
 {
-    let size = card.thread_bytes;
-    store(state, 256 + size * i, size, 38 + 2 * i, bytes);
-    put_byte(state, 3, (i + 1) as u8);
+    store(state, card.thread(i), bytes);
+    put_byte(state, 3, i + 1);
 }
 
 fn new_cell(state: &mut [u8], card: Card, bytes: &[u8])
@@ -34,7 +30,7 @@ fn new_cell(state: &mut [u8], card: Card, bytes: &[u8])
     ensures { CellAdded (card_of card) (at state.old 4) bytes.now state.old state.new }
 {
     let count = byte_at(state, 4);
-    set_cell(state, card, count as usize, bytes);
+    set_cell(state, card, count, bytes);
     put_byte(state, 4, count + 1);
 }
 
@@ -51,8 +47,8 @@ pub(crate) fn change(state: &mut [u8], card: Card, s: &[u8], also: Also)
             let count = byte_at(state, 5);
             put_byte(state, 5, count + 1);
         }
-        Also::Taken(l) => put_byte(state, 6 + l, 1),
-        Also::Released(l) => put_byte(state, 6 + l, 0),
+        Also::Taken(l) => put_byte(state, 6 + l as usize, 1),
+        Also::Released(l) => put_byte(state, 6 + l as usize, 0),
         Also::NewThread(i) => new_thread(state, card, i, &s[1..]),
     }
 }

@@ -1,4 +1,5 @@
-// The codes of the erased form (document 01, "The running state"), by name.
+// The codes of the erased form (document 01, "The running state"), by name. They are bytes and no enum: a step asks once what code a part has, and
+// an enum would be made of the byte by a match on the same bytes before that.
 pub(crate) const UNIT: u8 = 0x01;
 
 pub(crate) const NUMBER: u8 = 0x02;

@@ -1,7 +1,7 @@
 // From the code of the part that makes the step to the kind of step.
-ghost use Rattle.std.specs.Prelude.{◌≡◌, ◌<◌, length};
+ghost use Rattle.std.specs.Prelude.{◌≡◌, ◌<◌, ◌≤◌, length};
 ghost use Rattle.slots.specs.Walk.{skip_of};
-ghost use Rattle.machine.specs.Means.{Short};
+ghost use Rattle.machine.specs.Cuts.{Cut2};
 ghost use Rattle.machine.specs.Cutting.{Second, Redex};
 ghost use Rattle.machine.specs.Acting.{Acts};
 ghost use Rattle.plans.specs.Card.{card_of};
@@ -14,6 +14,7 @@ use crate::codes::{
 use crate::kinds::{
     add, apply, bind, branch, fork, make_cell, make_lock, read, release, take, went_on, write,
 };
+use crate::parts::Parts;
 use places::byte_at;
 use plans::card::Card;
 use slots::walk::skip;
@@ -30,6 +31,19 @@ fn second_from(s: &[u8], second: Option<usize>) -> usize
     }
 }
 
+fn parts(s: &[u8], second: Option<usize>) -> Parts
+    requires begins { Second s.now second }
+    requires cut { Cut2 s.now 1 (skip_of s.now 1) (length s.now) }
+    requires short { length s.now ≤ 2048 }
+    ensures bytes { result.bytes.now ≡ s.now }
+    ensures second { result.second ≡ skip_of s.now 1 }
+{
+    Parts {
+        bytes: s,
+        second: second_from(s, second),
+    }
+}
+
 // What the part whose bytes are s does, on the state; what it becomes goes to `out`. Its own second part begins at `second`, or is still to be
 // found.
 pub(crate) fn act(
@@ -38,24 +52,23 @@ pub(crate) fn act(
     state: &[u8],
     card: Card,
     out: &mut [u8],
-    stack: &mut [u8],
+    stack: &mut [u8; 4096],
 ) -> Result<Goes, NoStep>
-    requires redex { Redex s.now second }
-    requires short { Short s.now stack.old }
+    requires { Redex s.now second }
     ensures { Acts (card_of card) s.now state.now (length out.old) out.new result }
 {
     let c = s[0];
     match c {
-        APPLY => apply(s, second_from(s, second), out, stack),
-        NEW_CELL => make_cell(s, byte_at(state, 4), card.cells, card.cell_bytes, out),
-        READ => read(s, state, card.cells_start(), card.cell_bytes, out),
-        WRITE => write(s, second_from(s, second), card.cell_bytes, out),
+        APPLY => apply(parts(s, second), out, stack),
+        NEW_CELL => make_cell(s, byte_at(state, 4), card, out),
+        READ => read(s, state, card, out),
+        WRITE => write(parts(s, second), card.cell_bytes, out),
         FORK => fork(s, byte_at(state, 3), card.threads, out),
         NEW_LOCK => make_lock(s, byte_at(state, 5), card.locks, out, stack),
-        SECTION => take(s, second_from(s, second), state, out),
-        LET => bind(s, second_from(s, second), out, stack),
-        THEN => went_on(s, second_from(s, second), out),
-        ADD => add(s, second_from(s, second), out),
+        SECTION => take(parts(s, second), state, out),
+        LET => bind(parts(s, second), out, stack),
+        THEN => went_on(parts(s, second), out),
+        ADD => add(parts(s, second), out),
         IF => {
             let g = second_from(s, second);
             branch(s, g, skip(s, g).unwrap(), out)

@@ -1,45 +1,44 @@
-// The kinds of step, each on the bytes of the part that makes it: its own first part stands behind the code, the second and the third from g
-// and h on. What the part becomes is written to `out`, as far as there is room.
+// The kinds of step, each on the bytes s of the part that makes it, or on it as two parts of its own: the first stands behind the code. Of the
+// three parts of an If the second and the third stand from g and h on. What the part becomes is written to `out`, as far as there is room.
 ghost use Rattle.std.specs.Prelude.{◌≡◌, ◌<◌, ◌≤◌, length};
 ghost use Rattle.paper.specs.Base.{word32};
-ghost use Rattle.machine.specs.Means.{Cut, Cut2, Cut3, Short, Sized};
+ghost use Rattle.plans.specs.Card.{card_of};
+ghost use Rattle.plans.specs.ByteAt.{cells_from};
+ghost use Rattle.machine.specs.Cuts.{Cut, Cut3};
 ghost use Rattle.machine.specs.Kinds.{Applied, LetBound, LockMade, CellMade, CellRead, CellWritten, Forked};
 ghost use Rattle.machine.specs.Kinds.{LockTaken, LockReleased, WentOn, Added, Branched};
 
 use crate::act::{Also, Goes, goes_on};
 use crate::answer::{Kind, NoStep};
 use crate::codes::{CELL, FUNCTION, LOCK, NUMBER, OPEN, UNIT};
+use crate::parts::Parts;
 use places::{byte_at, two_at};
+use plans::card::Card;
 use slots::put::put;
 use writing::{fill, fill_both};
 
-pub(crate) fn apply(s: &[u8], g: usize, out: &mut [u8], stack: &mut [u8]) -> Result<Goes, NoStep>
-    requires cut2 { Cut2 s.now 1 g (length s.now) }
-    requires short { Short s.now stack.old }
-    ensures { Applied s.now g (length out.old) out.new result }
+pub(crate) fn apply(p: Parts, out: &mut [u8], stack: &mut [u8; 4096]) -> Result<Goes, NoStep>
+    ensures { Applied p.entry.bytes.now p.entry.second (length out.old) out.new result }
 {
-    if s[1] != FUNCTION {
+    if p.bytes[1] != FUNCTION {
         return Err(NoStep::IsStuck);
     }
-    let n = put(&s[2..g], &s[g..], out, 0, stack);
+    let n = put(&p.bytes[2..p.second], &p.bytes[p.second..], out, 0, stack);
     goes_on(Kind::Apply, 0, n, Also::Nothing)
 }
 
-pub(crate) fn bind(s: &[u8], g: usize, out: &mut [u8], stack: &mut [u8]) -> Result<Goes, NoStep>
-    requires cut2 { Cut2 s.now 1 g (length s.now) }
-    requires short { Short s.now stack.old }
-    ensures { LetBound s.now g (length out.old) out.new result }
+pub(crate) fn bind(p: Parts, out: &mut [u8], stack: &mut [u8; 4096]) -> Result<Goes, NoStep>
+    ensures { LetBound p.entry.bytes.now p.entry.second (length out.old) out.new result }
 {
-    let n = put(&s[g..], &s[1..g], out, 0, stack);
+    let n = put(&p.bytes[p.second..], &p.bytes[1..p.second], out, 0, stack);
     goes_on(Kind::Let, 0, n, Also::Nothing)
 }
 
 // Then: the second part is left.
-pub(crate) fn went_on(s: &[u8], g: usize, out: &mut [u8]) -> Result<Goes, NoStep>
-    requires { Cut s.now g (length s.now) }
-    ensures { WentOn s.now g (length out.old) out.new result }
+pub(crate) fn went_on(p: Parts, out: &mut [u8]) -> Result<Goes, NoStep>
+    ensures { WentOn p.entry.bytes.now p.entry.second (length out.old) out.new result }
 {
-    let n = fill(&s[g..], out, 0);
+    let n = fill(&p.bytes[p.second..], out, 0);
     goes_on(Kind::Then, 0, n, Also::Nothing)
 }
 
@@ -48,10 +47,10 @@ pub(crate) fn make_lock(
     count: u8,
     room: usize,
     out: &mut [u8],
-    stack: &mut [u8],
+    stack: &mut [u8; 4096],
 ) -> Result<Goes, NoStep>
     requires cut { Cut s.now 1 (length s.now) }
-    requires short { Short s.now stack.old }
+    requires short { length s.now ≤ 2048 }
     ensures { LockMade s.now count room (length out.old) out.new result }
 {
     let l = count as usize;
@@ -63,21 +62,14 @@ pub(crate) fn make_lock(
     goes_on(Kind::LockMade, l, n, Also::NewLock)
 }
 
-pub(crate) fn make_cell(
-    s: &[u8],
-    count: u8,
-    room: usize,
-    size: usize,
-    out: &mut [u8],
-) -> Result<Goes, NoStep>
-    requires { Cut s.now 1 (length s.now) }
-    ensures { CellMade s.now count room size (length out.old) out.new result }
+pub(crate) fn make_cell(s: &[u8], count: u8, card: Card, out: &mut [u8]) -> Result<Goes, NoStep>
+    ensures { CellMade s.now count card.cells card.cell_bytes (length out.old) out.new result }
 {
     let j = count as usize;
-    if room <= j {
+    if card.cells <= j {
         return Err(NoStep::TooMany);
     }
-    if size < s.len() - 1 {
+    if card.cell_bytes + 1 < s.len() {
         return Err(NoStep::TooLong);
     }
     let v = [CELL, count];
@@ -85,49 +77,40 @@ pub(crate) fn make_cell(
     goes_on(Kind::CellMade, j, n, Also::NewCell)
 }
 
-// The cells' slots of `size` bytes stand in the state from `from` on.
-pub(crate) fn read(
-    s: &[u8],
-    state: &[u8],
-    from: usize,
-    size: usize,
-    out: &mut [u8],
-) -> Result<Goes, NoStep>
-    requires cut { Cut s.now 1 (length s.now) }
-    requires sized { Sized from size }
-    ensures { CellRead s.now state.now from size (length out.old) out.new result }
+pub(crate) fn read(s: &[u8], state: &[u8], card: Card, out: &mut [u8]) -> Result<Goes, NoStep>
+    requires { Cut s.now 1 (length s.now) }
+    ensures { CellRead s.now state.now (cells_from (card_of card)) card.cell_bytes (length out.old) out.new result }
 {
     if s[1] != CELL {
         return Err(NoStep::IsStuck);
     }
-    let j = byte_at(s, 2) as usize;
-    let n = two_at(state, 70 + 2 * j);
-    if size < n {
+    let j = byte_at(s, 2);
+    let slot = card.cell(j);
+    let n = two_at(state, slot.place);
+    if slot.size < n {
         return Err(NoStep::IsStuck);
     }
-    let a = from + size * j;
-    let b = a + n;
-    if state.len() < b {
+    let end = slot.base + n;
+    if state.len() < end {
         return Err(NoStep::IsStuck);
     }
-    let m = fill(&state[a..b], out, 0);
-    goes_on(Kind::Read, j, m, Also::Nothing)
+    let m = fill(&state[slot.base..end], out, 0);
+    goes_on(Kind::Read, j as usize, m, Also::Nothing)
 }
 
-pub(crate) fn write(s: &[u8], g: usize, size: usize, out: &mut [u8]) -> Result<Goes, NoStep>
-    requires { Cut2 s.now 1 g (length s.now) }
-    ensures { CellWritten s.now g size (length out.old) out.new result }
+pub(crate) fn write(p: Parts, size: usize, out: &mut [u8]) -> Result<Goes, NoStep>
+    ensures { CellWritten p.entry.bytes.now p.entry.second size (length out.old) out.new result }
 {
-    if s[1] != CELL {
+    if p.bytes[1] != CELL {
         return Err(NoStep::IsStuck);
     }
-    let j = byte_at(s, 2) as usize;
-    if size < s.len() - g {
+    let j = byte_at(p.bytes, 2);
+    if size < p.bytes.len() - p.second {
         return Err(NoStep::TooLong);
     }
     let v = [UNIT];
     let n = fill(&v, out, 0);
-    goes_on(Kind::Write, j, n, Also::SetCell(j, g))
+    goes_on(Kind::Write, j as usize, n, Also::SetCell(j, p.second))
 }
 
 pub(crate) fn fork(s: &[u8], count: u8, room: usize, out: &mut [u8]) -> Result<Goes, NoStep>
@@ -139,25 +122,23 @@ pub(crate) fn fork(s: &[u8], count: u8, room: usize, out: &mut [u8]) -> Result<G
     }
     let v = [UNIT];
     let n = fill(&v, out, 0);
-    goes_on(Kind::Fork, i, n, Also::NewThread(i))
+    goes_on(Kind::Fork, i, n, Also::NewThread(count))
 }
 
 // The open section takes the place of the code and the lock.
-pub(crate) fn take(s: &[u8], g: usize, state: &[u8], out: &mut [u8]) -> Result<Goes, NoStep>
-    requires { Cut2 s.now 1 g (length s.now) }
-    ensures { LockTaken s.now g state.now (length out.old) out.new result }
+pub(crate) fn take(p: Parts, state: &[u8], out: &mut [u8]) -> Result<Goes, NoStep>
+    ensures { LockTaken p.entry.bytes.now p.entry.second state.now (length out.old) out.new result }
 {
-    if s[1] != LOCK {
+    if p.bytes[1] != LOCK {
         return Err(NoStep::IsStuck);
     }
-    let b = byte_at(s, 2);
-    let l = b as usize;
-    if byte_at(state, 6 + l) != 0 {
-        return Err(NoStep::WaitsFor(l));
+    let l = byte_at(p.bytes, 2);
+    if byte_at(state, 6 + l as usize) != 0 {
+        return Err(NoStep::WaitsFor(l as usize));
     }
-    let v = [OPEN, b];
-    let n = fill_both(&v, &s[g..], out, 0);
-    goes_on(Kind::Take, l, n, Also::Taken(l))
+    let v = [OPEN, l];
+    let n = fill_both(&v, &p.bytes[p.second..], out, 0);
+    goes_on(Kind::Take, l as usize, n, Also::Taken(l))
 }
 
 // The lock stands behind the code, and the part behind the lock.
@@ -165,9 +146,9 @@ pub(crate) fn release(s: &[u8], out: &mut [u8]) -> Result<Goes, NoStep>
     requires { Cut s.now 2 (length s.now) }
     ensures { LockReleased s.now (length out.old) out.new result }
 {
-    let l = byte_at(s, 1) as usize;
+    let l = byte_at(s, 1);
     let n = fill(&s[2..], out, 0);
-    goes_on(Kind::Release, l, n, Also::Released(l))
+    goes_on(Kind::Release, l as usize, n, Also::Released(l))
 }
 
 fn word_at(s: &[u8], k: usize) -> u32
@@ -182,17 +163,19 @@ fn word_at(s: &[u8], k: usize) -> u32
     ])
 }
 
-pub(crate) fn add(s: &[u8], g: usize, out: &mut [u8]) -> Result<Goes, NoStep>
-    requires { Cut2 s.now 1 g (length s.now) }
-    ensures { Added s.now g (length out.old) out.new result }
+pub(crate) fn add(p: Parts, out: &mut [u8]) -> Result<Goes, NoStep>
+    ensures { Added p.entry.bytes.now p.entry.second (length out.old) out.new result }
 {
+    let s = p.bytes;
     if s[1] != NUMBER {
         return Err(NoStep::IsStuck);
     }
-    if s[g] != NUMBER {
+    if s[p.second] != NUMBER {
         return Err(NoStep::IsStuck);
     }
-    let [a, b, c, d] = word_at(s, 2).wrapping_add(word_at(s, g + 1)).to_be_bytes();
+    let [a, b, c, d] = word_at(s, 2)
+        .wrapping_add(word_at(s, p.second + 1))
+        .to_be_bytes();
     let v = [NUMBER, a, b, c, d];
     let m = fill(&v, out, 0);
     goes_on(Kind::Add, 0, m, Also::Nothing)

@@ -1,4 +1,5 @@
-// What a step works in beside the state. It is lent to every step of a run, so that a run clears it once.
+// What a step works in beside the state. It is lent to every step of a run, so that a run clears it once. Within a step its parts are lent one by
+// one, since what stands in one is read while the others are written.
 
 #[derive(Drop)]
 pub(crate) struct Scratch {

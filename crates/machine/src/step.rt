@@ -9,7 +9,7 @@ use crate::change::change;
 use crate::dispatch::act;
 use crate::scratch::Scratch;
 use places::{byte_at, two_at};
-use plans::card::Card;
+use plans::card::{Card, Slot};
 use plans::store::exchange;
 use slots::codes::value;
 use slots::walk::skip;
@@ -51,36 +51,31 @@ fn find_due(thread: &[u8]) -> Due
 // The step of thread i, by the part that is due, whose bytes are s.
 fn run_part(
     state: &mut [u8],
-    i: usize,
+    i: u8,
     card: Card,
     due: Due,
     s: &[u8],
     out: &mut [u8],
-    stack: &mut [u8],
+    stack: &mut [u8; 4096],
 ) -> Result<Made, NoStep>
-    requires { Running (card_of card) state.old i due s.now out.old stack.old }
+    requires { Running (card_of card) state.old i due s.now out.old }
     ensures { Answers (card_of card) state.old i state.new result }
 {
-    let size = card.thread_bytes;
     let goes = act(s, due.second, state, card, out, stack)?;
-    if size - (due.used - s.len()) < goes.size {
+    if card.thread_bytes - (due.used - s.len()) < goes.size {
         return Err(NoStep::TooLong);
     }
     change(state, card, s, goes.also);
-    let base = 256 + size * i;
-    exchange(
-        state,
-        base,
-        due.used,
-        38 + 2 * i,
-        due.from,
-        due.to,
-        &out[..goes.size],
-    );
+    let used = Slot {
+        size: due.used,
+        ..card.thread(i)
+    };
+    exchange(state, used, due.from, due.to, &out[..goes.size]);
     Ok(goes.made)
 }
 
-// A thread number is 64 bits wide until it is known to be below the count.
+// A thread number is 64 bits wide until it is known to be below the count. That the buffer holds a state is asked here and by the runs, and is no
+// fact of a type: between the stores of a step it holds none, and a type over a lent buffer has to keep its fact at each of them.
 pub(crate) fn step_held(
     state: &mut [u8],
     i: u64,
@@ -90,21 +85,21 @@ pub(crate) fn step_held(
     requires { Held (card_of card) state.old }
     ensures { Answers (card_of card) state.old i state.new result }
 {
-    let count = byte_at(state, 3) as u64;
-    if count <= i {
+    let count = byte_at(state, 3);
+    if count as u64 <= i {
         return Err(NoStep::NoSuchThread);
     }
-    let k = i as usize;
-    let n = two_at(state, 38 + 2 * k);
-    let a = 256 + card.thread_bytes * k;
-    let b = a + n;
-    if value(state[a]) {
+    let i = i as u8;
+    let slot = card.thread(i);
+    let n = two_at(state, slot.place);
+    let end = slot.base + n;
+    if value(state[slot.base]) {
         return Err(NoStep::IsFinished);
     }
-    let due = find_due(&state[a..b]);
-    let from = a + due.from;
-    let to = a + due.to;
+    let due = find_due(&state[slot.base..end]);
+    let from = slot.base + due.from;
+    let to = slot.base + due.to;
     let Scratch { old, out, stack } = scratch;
     let m = fill(&state[from..to], old, 0);
-    run_part(state, k, card, due, &old[..m], out, stack)
+    run_part(state, i, card, due, &old[..m], out, stack)
 }

@@ -1,4 +1,4 @@
-pub mod Found
+pub mod Answer
 pub mod Codes
 pub mod Walk
 pub mod Due

@@ -11,7 +11,7 @@ use borrow.Author.Tests.{ne_eqb, ltb-true, ltb-false}
 use Rattle.paper.specs.Base.{choose}
 use Rattle.slots.specs.Way.{onward}
 use Rattle.slots.specs.WayLoop.{Onward}
-use Rattle.slots.specs.Found.{Answer}
+use Rattle.slots.specs.Answer.{Answer}
 use Rattle.slots.specs.Sections.{open_at, opens_from, opens_of, granted, cleared, tally, Claimed, claimed_all, claimed_none, opens_here}
 use Rattle.slots.specs.Sections.{opens_on, past_opens, granted_append, cleared_append}
 

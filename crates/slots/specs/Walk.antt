@@ -3,7 +3,7 @@
 use Rattle.std.specs.Prelude.{◌≡◌, refl, Bool, true, false, List, [], ◌∷◌, ℕ, zero, suc, ◌+◌, ◌-◌, ◌*◌, ◌<◌, ◌≤◌, length, get_or, drop, leb, Some, None, IfSome}
 use Rattle.std.proofs.Common.{sym, ap, ◌∙◌, add-zero, arith, drop_of_length-le, length-drop, drop-cons, drop-drop, leb-true, leb-false}
 use Rattle.slots.specs.Codes.{is_code, kids_of, field_of, kids≤}
-use Rattle.slots.specs.Found.{Answer, found, found_at, found_some, found_none}
+use Rattle.slots.specs.Answer.{Answer, nonzero, nonzero_at, nonzero_some, nonzero_none}
 
 -- where the bytes end that `hold` bytes of a field and then `need` expressions take, from place `at` on: 0 where they do not end
 unfoldable pub walk : List ℕ → (at need hold : ℕ) → ℕ
@@ -143,17 +143,17 @@ skip_later s at p = omega (arith, walk_later (drop at s) at 1 0 p)
 
 -- `skip` answers the place after the expression at `at`, if one stands there
 pub record Skipped (s : List ℕ) (at : ℕ) (r : Answer) : Type 0 where
-  pub says : r ≡ found (skip_of s at)
+  pub says : r ≡ nonzero (skip_of s at)
   pub inside : IfSome r (λ e. (at < e) × (e ≤ length s))
 
 pub skipped_one : {s : List ℕ} {at : ℕ} {r r' : Answer} → Skipped s at r → Skipped s at r' → r ≡ r'
 skipped_one a b = a.says ∙ sym b.says
 
 pub skipped_some : {s : List ℕ} {at e : ℕ} → Skipped s at (Some e) → (e ≡ skip_of s at) × (at < e) × (e ≤ length s)
-skipped_some {s} {at} {e} a = ((found_some (skip_of s at) e a.says).0, a.inside.0, a.inside.1)
+skipped_some {s} {at} {e} a = ((nonzero_some (skip_of s at) e a.says).0, a.inside.0, a.inside.1)
 
 pub skipped_none : {s : List ℕ} {at : ℕ} → Skipped s at None → skip_of s at ≡ 0
-skipped_none {s} {at} a = found_none (skip_of s at) a.says
+skipped_none {s} {at} a = nonzero_none (skip_of s at) a.says
 
 -- ---- the loop
 
@@ -169,12 +169,12 @@ skipping_start s at = record { same = refl; few = omega arith; some = omega arit
 
 answered : (s : List ℕ) (at e : ℕ) → 0 < e → e ≡ skip_of s at → Skipped s at (Some e)
 answered s at e p h = record {
-  says = found_at (skip_of s at) e p h;
+  says = nonzero_at (skip_of s at) e p h;
   inside = (omega (arith, skip_later s at, h), omega (arith, skip_inside s at, h));
 }
 
 unanswered : (s : List ℕ) (at : ℕ) → 0 ≡ skip_of s at → Skipped s at None
-unanswered s at h = record { says = ap found h; inside = tt }
+unanswered s at h = record { says = ap nonzero h; inside = tt }
 
 module _ {s : List ℕ} {at i need : ℕ} (l : Skipping s at i need) where
   pub skipping_over : need ≡ 0 → Skipped s at (Some i)

@@ -10,7 +10,7 @@ use borrow.Author.Tests.{eq-eqb, ne_eqb}
 use Rattle.paper.specs.Base.{choose}
 use Rattle.slots.specs.Codes.{field_of, goes1, goes2, is_value}
 use Rattle.slots.specs.Walk.{skip_of}
-use Rattle.slots.specs.Found.{Answer, found, one_more, one_more_one}
+use Rattle.slots.specs.Answer.{Answer, nonzero, one_more, one_more_one}
 
 -- after the first part, which is a value from f on: the second part, if evaluation goes there and it is no value
 unfoldable pub second : List ℕ → (p f e : ℕ) → ℕ
@@ -68,10 +68,10 @@ aim_of s = aim_number (aim_at s (place_of s))
 pub record Place (s : List ℕ) (r : ℕ) (e : Answer) : Type 0 where
   pub says : r ≡ place_of s
   pub inside : r ≤ length s
-  pub second : e ≡ found (second_at s r)
+  pub second : e ≡ nonzero (second_at s r)
 
 pub place_one : {s : List ℕ} {r r' : ℕ} {e e' : Answer} → Place s r e → Place s r' e' → (r ≡ r') × (e ≡ e')
-place_one {s} a b = let z = a.says ∙ sym b.says in (z, a.second ∙ ap (λ x. found (second_at s x)) z ∙ sym b.second)
+place_one {s} a b = let z = a.says ∙ sym b.says in (z, a.second ∙ ap (λ x. nonzero (second_at s x)) z ∙ sym b.second)
 
 -- `aim` answers which cell is read or written there, if one is
 pub record Aim (s : List ℕ) (r : Answer) : Type 0 where

@@ -8,7 +8,7 @@ use Rattle.std.proofs.Math.ListN.{get_or, get_or-eq_default}
 use borrow.Author.Tests.{lt-ltb, le-ltb, ne_eqb}
 use Rattle.slots.specs.Codes.{Told, field_of, goes1, goes2, is_value}
 use Rattle.slots.specs.Walk.{skip_of}
-use Rattle.slots.specs.Found.{Answer, found, found_at, one_more}
+use Rattle.slots.specs.Answer.{Answer, nonzero, nonzero_at, one_more}
 use Rattle.slots.specs.Way.{second, inward, onward, both, second_at, place_from, place_of, cell_from, aim_at, aim_number, aim_of, Place, Aim}
 use Rattle.slots.specs.Way.{place_here, place_on}
 
@@ -19,67 +19,67 @@ pub record Onward (s : List ℕ) (p r : ℕ) (e : Answer) : Type 0 where
   pub says : r ≡ onward s p
   pub later : p ≤ r
   pub inside : r ≤ length s
-  pub second : e ≡ found (second_at s p)
+  pub second : e ≡ nonzero (second_at s p)
 
 module _ {s : List ℕ} {p : ℕ} (i : p < length s) where
   here : onward s p ≡ p → second_at s p ≡ 0 → Onward s p p None
-  here z w = record { says = sym z; later = omega arith; inside = omega arith; second = ap found (sym w) }
+  here z w = record { says = sym z; later = omega arith; inside = omega arith; second = ap nonzero (sym w) }
 
   pub on_stop : goes1 (get_or s p 0) ≡ false → Onward s p p None
   unfolding onward inward second_at both
   on_stop g = here (rw g) (rw g)
 
-  -- with w bytes of its own
-  module _ (w : ℕ) (ew : w ≡ field_of (get_or s p 0)) (g : goes1 (get_or s p 0) ≡ true) where
-    pub on_cut : length s ≤ p + w + 1 → Onward s p p None
+  -- with the first part from f on
+  module _ (f : ℕ) (ef : f ≡ p + field_of (get_or s p 0) + 1) (g : goes1 (get_or s p 0) ≡ true) where
+    pub on_cut : length s ≤ f → Onward s p p None
     unfolding onward inward second_at both
-    on_cut h = here (rw (sym ew, g, le-ltb _ _ h)) (rw (sym ew, g, le-ltb _ _ h))
+    on_cut h = here (rw (sym ef, g, le-ltb _ _ h)) (rw (sym ef, g, le-ltb _ _ h))
 
-    module _ (h : p + w + 1 < length s) where
-      pub on_first : is_value (get_or s (p + w + 1) 0) ≡ false → Onward s p (p + w + 1) None
+    module _ (h : f < length s) where
+      pub on_first : is_value (get_or s f 0) ≡ false → Onward s p f None
       unfolding onward inward second_at both
       on_first n = record {
-        says = rw (sym ew, g, lt-ltb _ _ h, n);
+        says = rw (sym ef, g, lt-ltb _ _ h, n);
         later = omega arith;
         inside = omega arith;
-        second = let z : 0 ≡ second_at s p = rw (sym ew, g, lt-ltb _ _ h, n) in ap found z;
+        second = let z : 0 ≡ second_at s p = rw (sym ef, g, lt-ltb _ _ h, n) in ap nonzero z;
       }
 
-      module _ (v : is_value (get_or s (p + w + 1) 0) ≡ true) where
+      module _ (v : is_value (get_or s f 0) ≡ true) where
         pub on_one : goes2 (get_or s p 0) ≡ false → Onward s p p None
         unfolding onward inward second second_at both
-        on_one n = here (rw (sym ew, g, lt-ltb _ _ h, v, n)) (rw (sym ew, g, lt-ltb _ _ h, v, n))
+        on_one n = here (rw (sym ef, g, lt-ltb _ _ h, v, n)) (rw (sym ef, g, lt-ltb _ _ h, v, n))
 
         -- with the first part's end at e
-        module _ (g2 : goes2 (get_or s p 0) ≡ true) (e : ℕ) (ee : e ≡ skip_of s (p + w + 1)) where
-          pub on_none : e ≤ p + w + 1 → Onward s p p None
+        module _ (g2 : goes2 (get_or s p 0) ≡ true) (e : ℕ) (ee : e ≡ skip_of s f) where
+          pub on_none : e ≤ f → Onward s p p None
           unfolding onward inward second second_at both
-          on_none l = here (rw (sym ew, g, lt-ltb _ _ h, v, g2, sym ee, le-ltb _ _ l)) (rw (sym ew, g, lt-ltb _ _ h, v, g2, sym ee, le-ltb _ _ l))
+          on_none l = here (rw (sym ef, g, lt-ltb _ _ h, v, g2, sym ee, le-ltb _ _ l)) (rw (sym ef, g, lt-ltb _ _ h, v, g2, sym ee, le-ltb _ _ l))
 
-          module _ (l : p + w + 1 < e) where
+          module _ (l : f < e) where
             pub on_end : length s ≤ e → Onward s p p None
             unfolding onward inward second second_at both
             on_end m =
-                here (rw (sym ew, g, lt-ltb _ _ h, v, g2, sym ee, lt-ltb _ _ l, le-ltb _ _ m))
-                (rw (sym ew, g, lt-ltb _ _ h, v, g2, sym ee, lt-ltb _ _ l, le-ltb _ _ m))
+                here (rw (sym ef, g, lt-ltb _ _ h, v, g2, sym ee, lt-ltb _ _ l, le-ltb _ _ m))
+                (rw (sym ef, g, lt-ltb _ _ h, v, g2, sym ee, lt-ltb _ _ l, le-ltb _ _ m))
 
             module _ (m : e < length s) where
               pub on_both : is_value (get_or s e 0) ≡ true → Onward s p p (Some e)
               unfolding onward inward second second_at both
               on_both n = record {
-                says = rw (sym ew, g, lt-ltb _ _ h, v, g2, sym ee, lt-ltb _ _ l, lt-ltb _ _ m, n);
+                says = rw (sym ef, g, lt-ltb _ _ h, v, g2, sym ee, lt-ltb _ _ l, lt-ltb _ _ m, n);
                 later = omega arith;
                 inside = omega arith;
-                second = found_at (second_at s p) e (omega arith) (rw (sym ew, g, lt-ltb _ _ h, v, g2, sym ee, lt-ltb _ _ l, lt-ltb _ _ m, n));
+                second = nonzero_at (second_at s p) e (omega arith) (rw (sym ef, g, lt-ltb _ _ h, v, g2, sym ee, lt-ltb _ _ l, lt-ltb _ _ m, n));
               }
 
               pub on_second : is_value (get_or s e 0) ≡ false → Onward s p e None
               unfolding onward inward second second_at both
               on_second n = record {
-                says = rw (sym ew, g, lt-ltb _ _ h, v, g2, sym ee, lt-ltb _ _ l, lt-ltb _ _ m, n);
+                says = rw (sym ef, g, lt-ltb _ _ h, v, g2, sym ee, lt-ltb _ _ l, lt-ltb _ _ m, n);
                 later = omega arith;
                 inside = omega arith;
-                second = let z : 0 ≡ second_at s p = rw (sym ew, g, lt-ltb _ _ h, v, g2, sym ee, lt-ltb _ _ l, lt-ltb _ _ m, n) in ap found z;
+                second = let z : 0 ≡ second_at s p = rw (sym ef, g, lt-ltb _ _ h, v, g2, sym ee, lt-ltb _ _ l, lt-ltb _ _ m, n) in ap nonzero z;
               }
 
 -- past the end nothing goes on
@@ -120,14 +120,14 @@ further s p h (suc g) l e = (
 
 module _ {s : List ℕ} {p : ℕ} (l : Placing s p) where
   pub placing_end : length s ≤ p → Place s p None
-  placing_end h = record { says = sym (past_place l.fuel s p h) ∙ l.same; inside = l.inside; second = ap found (sym (past_second s p h)) }
+  placing_end h = record { says = sym (past_place l.fuel s p h) ∙ l.same; inside = l.inside; second = ap nonzero (sym (past_second s p h)) }
 
   module _ (h : p < length s) {r : ℕ} {e : Answer} (o : Onward s p r e) where
     pub placing_here : r ≡ p → Place s r e
     placing_here z = record {
       says = z ∙ (further s p h l.fuel l.enough l.same).0 (sym o.says ∙ z);
       inside = o.inside;
-      second = o.second ∙ ap (λ x. found (second_at s x)) (sym z);
+      second = o.second ∙ ap (λ x. nonzero (second_at s x)) (sym z);
     }
 
     pub placing_on : (r ≡ p → ⊥) → Placing s r

@@ -1,9 +1,9 @@
 // Whether one closed expression fills a slot: one pass, on a lent stack as long as the slot.
 ghost use Rattle.std.specs.Prelude.{◌≡◌, length};
-ghost use Rattle.slots.specs.Found.{one_more};
+ghost use Rattle.slots.specs.Answer.{one_more};
 ghost use Rattle.slots.specs.Closed.{field_ok, closed_count, Closed};
 
-use crate::codes::{CELL, LOCK, OPEN, VARIABLE, byte, fields, is_code, opening};
+use crate::codes::{CELL, LOCK, OPEN, VARIABLE, byte, is_code, opening, width};
 use crate::sections::Counts;
 use crate::stack::{Part, after, pushes};
 use zeros::clear;
@@ -40,8 +40,8 @@ fn pass(s: &[u8], counts: Counts, stack: &mut [u8]) -> Option<usize>
         if !field_ok(counts, c, usize::from(byte(s, i + 1)), part.d) {
             return None;
         }
-        let w = fields(c);
-        if s.len() - i <= w {
+        let w = width(c);
+        if s.len() - i < w {
             return None;
         }
         if stack.len() - part.sp < pushes(c) {
@@ -49,7 +49,7 @@ fn pass(s: &[u8], counts: Counts, stack: &mut [u8]) -> Option<usize>
         }
         n += opening(c);
         next = after(stack, part, c);
-        i += w + 1;
+        i += w;
     }
     if i < s.len() {
         return None;

@@ -21,6 +21,7 @@ const FIRST: u8 = 0x01;
 
 const LAST: u8 = 0x12;
 
+// The tables.
 const KIDS: usize = 0b01_00_00_11_10_10_10_10_01_01_10_01_01_10_01_00_00_00_00;
 
 const WIDTHS: usize = 0b010_010_010_001_001_001_001_001_001_001_001_001_001_001_001_010_101_001_001;
@@ -50,7 +51,7 @@ fn entry(table: usize, bits: u8, c: u8) -> usize
 pub(crate) fn is_code(c: u8) -> bool
     ensures { result ≡ is_code c }
 {
-    FIRST <= c && c <= LAST
+    matches!(c, FIRST..=LAST)
 }
 
 // How many parts.
@@ -61,7 +62,7 @@ pub(crate) fn kids(c: u8) -> usize
     entry(KIDS, 2, c)
 }
 
-// How many bytes it takes with those of its own between it and its parts. A walk goes on by this, so it is the one that has the table.
+// How many bytes it takes with those of its own, which stand between it and its parts.
 #[tactic(auto, using(crate::specs::Codes::told_width, crate::specs::Codes::told_width_past))]
 pub(crate) fn width(c: u8) -> usize
     ensures { Told (field_of c + 1) 5 result }
@@ -70,13 +71,6 @@ pub(crate) fn width(c: u8) -> usize
         return 1;
     }
     entry(WIDTHS, 3, c)
-}
-
-// How many bytes of its own.
-pub(crate) fn fields(c: u8) -> usize
-    ensures { Told (field_of c) 4 result }
-{
-    width(c) - 1
 }
 
 // 1 where its first part stands under a binder of it, else 0.

@@ -3,7 +3,7 @@ ghost use Rattle.std.specs.Prelude.{◌≡◌, ◌++◌, ◌+◌, ◌*◌, ◌�
 ghost use Rattle.writing.specs.Written.{Written};
 ghost use Rattle.slots.specs.Put.{hit, put_of, Put};
 
-use crate::codes::{VARIABLE, fields};
+use crate::codes::{VARIABLE, width};
 use crate::stack::{Part, after, ended};
 use writing::{fill, fill_both, least};
 use zeros::clear;
@@ -44,7 +44,7 @@ fn pass(src: &[u8], v: &[u8], dst: &mut [u8], at: usize, stack: &mut [u8]) -> us
         }
         let c = src[i];
         next = after(stack, part, c);
-        i += fields(c) + 1;
+        i += width(c);
     }
     fill(&src[from..], dst, out)
 }

@@ -1,7 +1,7 @@
 // What a used slot may hold: an open section stands only where evaluation goes, and takes its lock's mark away from a lent copy of the
 // marks.
 ghost use Rattle.std.specs.Prelude.{◌≤◌, length};
-ghost use Rattle.slots.specs.Found.{one_more};
+ghost use Rattle.slots.specs.Answer.{one_more};
 ghost use Rattle.slots.specs.Sections.{open_at, opens_of, Claimed};
 ghost use Rattle.slots.specs.Slot.{ThreadSlot, CellSlot};
 

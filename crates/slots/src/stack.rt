@@ -37,24 +37,18 @@ pub(crate) fn ended(stack: &mut [u8], part: Part) -> Option<Part>
     requires { Room stack.old part.sp part.d }
     ensures { Comes (ended·of part.d (stack_of stack.old part.sp)) part.sp (part.d + 1) result stack.new }
 {
-    let mut n = part.sp;
     let mut depth = part.d;
-    while 0 < n {
-        let k = stack[n - 1];
-        if k == FURTHER {
-            return Some(Part {
-                d: depth,
-                sp: n - 1,
-            });
+    for n in (0..part.sp).rev() {
+        if stack[n] == FURTHER {
+            return Some(Part { d: depth, sp: n });
         }
-        if k == BOUND {
-            stack[n - 1] = SCOPE;
+        if stack[n] == BOUND {
+            stack[n] = SCOPE;
             return Some(Part {
                 d: depth + 1,
-                sp: n,
+                sp: n + 1,
             });
         }
-        n -= 1;
         depth = depth.saturating_sub(1);
     }
     None

@@ -1,11 +1,11 @@
 // Where evaluation goes in a slot: a path search without memory, since a value is told by its first byte.
 ghost use Rattle.std.specs.Prelude.{◌+◌, ◌≤◌, ◌<◌, length};
 ghost use Rattle.slots.specs.Codes.{Told};
-ghost use Rattle.slots.specs.Found.{one_more};
+ghost use Rattle.slots.specs.Answer.{one_more};
 ghost use Rattle.slots.specs.Way.{cell_from, aim_at, aim_number, Place, Aim};
 ghost use Rattle.slots.specs.WayLoop.{Onward};
 
-use crate::codes::{CELL, READ, WRITE, byte, fields, goes_first, goes_second, value};
+use crate::codes::{CELL, READ, WRITE, byte, goes_first, goes_second, value, width};
 use crate::walk::skip;
 
 // How far evaluation goes: a place, and where the second part of the code there begins, if both its parts are values and evaluation goes into
@@ -31,7 +31,7 @@ pub(crate) fn onward(s: &[u8], p: usize) -> Reached
     if !goes_first(c) {
         return here;
     }
-    let f = p + fields(c) + 1;
+    let f = p + width(c);
     if s.len() <= f {
         return here;
     }

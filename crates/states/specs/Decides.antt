@@ -1,7 +1,6 @@
 -- The contract of a test: it says true exactly when the statement holds.
-use Rattle.std.specs.Prelude.{◌≡◌, refl, Bool, true, false, not}
+use Rattle.std.specs.Prelude.{◌≡◌, refl, Bool, true, false}
 use Rattle.std.proofs.Common.{sym, ◌∙◌}
-use Rattle.std.proofs.lemmas.Bool.{not-true, not-false}
 use Rattle.laws.specs.Tests.{no_true}
 
 pub record Decides (r : Bool) (P : Type 0) : Type 0 where
@@ -13,13 +12,6 @@ decided p = record { yes = λ e. p; no = λ q. refl }
 
 pub denied : {P : Type 0} → (P → ⊥) → Decides false P
 denied f = record { yes = λ e. no_true e; no = λ p. absurd (f p) }
-
--- a test that failed, and one that passed, as `if !test` says it
-pub failed : {r : Bool} {P : Type 0} → Decides r P → not r ≡ true → P → ⊥
-failed {r} d f p = no_true (sym (not-true r f) ∙ d.no p)
-
-pub passed : {r : Bool} {P : Type 0} → Decides r P → not r ≡ false → P
-passed {r} d f = d.yes (not-false r f)
 
 -- a computed test's answer
 pub answered : {r b : Bool} {P : Type 0} → r ≡ b → Decides b P → Decides r P

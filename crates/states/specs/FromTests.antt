@@ -20,7 +20,7 @@ use Rattle.plans.specs.Finding.{Rows, Found, found_holds}
 use Rattle.slots.specs.Sections.{granted, cleared}
 use Rattle.slots.specs.SlotTerm.{thread_means, cell_means}
 use Rattle.slots.specs.Marks.{Right, all_taken, opened_grants, opened_clears}
-use Rattle.states.specs.Rows.{Framed, in_slot, marks_after, ThreadAt, CellAt}
+use Rattle.states.specs.Rows.{Framed, in_slot, left_after, marks_after, ThreadAt, CellAt}
 use Rattle.states.specs.Tested.{marks_of, Tested}
 use Rattle.states.specs.SlotRows.{slot_bytes, rows_found}
 
@@ -48,7 +48,7 @@ module _ (from size lens room nl nc : ℕ) (s : List ℕ) (bytes : (k : ℕ) →
       leaves : cleared (After i) (opened terms) ≡ After (i + k)
 
     thread_more : (k i : ℕ) → ThreadAt from size lens room nl nc s m i → Threads (suc i) k → Threads i (suc k)
-    unfolding text marks_after
+    unfolding text left_after
     thread_more k i h r =
         let w = thread_means nl nc room (Text i) (After i) (slot_bytes s bytes (from + size * i) (lens + 2 * i)) h.passes in
         let g : cleared (After i) (sections w.term) ≡ After (suc i) = sym w.leaves in
@@ -131,7 +131,7 @@ module _ (card : Card) (fits : Fits card) (room : ℕ) (s : List ℕ) (bytes : (
   marks_length = length-take-le (at s 5) (drop 6 s) (omega (arith, length-drop 6 s, h.long, h.header.few_locks, fits.locks))
 
   there_right : (l : ℕ) → Right marks (opened threads.terms) l
-  unfolding marks_after
+  unfolding left_after
   there_right = all_taken (opened threads.terms) marks threads.grants (λ i.
       let z : 0 + at s 3 ≡ at s 3 = omega arith in
       ap (λ (x : List ℕ). at x i) (threads.leaves ∙ ap (marks_after 256 card.thread_bytes 38 room (at s 5) (at s 4) s marks) z) ∙ h.plan.left i)

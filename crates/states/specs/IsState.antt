@@ -10,7 +10,7 @@ use Rattle.laws.specs.StateBytes.{holds_state, state_holds, no_state}
 use Rattle.laws.specs.Cards.{sixteen_fits, sixteen_total}
 use Rattle.plans.specs.ByteAt.{holds_long}
 use Rattle.states.specs.Decides.{Decides}
-use Rattle.states.specs.Tested.{Tested, Lent}
+use Rattle.states.specs.Tested.{Tested}
 use Rattle.states.specs.FromTests.{tested_holds}
 use Rattle.states.specs.ToTests.{holds_tested}
 
@@ -57,10 +57,6 @@ state_long s e =
     omega (arith, sixteen_total, holds_long sixteen sixteen_fits s w.0 (state_holds sixteen sixteen_fits s w.0 w.1))
 
 -- ---- the tests of the bytes answer it
-
-pub lent_sixteen : (m st : List ℕ) → length m ≡ 32 → length st ≡ 2048 → Lent sixteen m st
-unfolding sixteen
-lent_sixteen m st a b = record { card_fits = sixteen_fits; marks = omega arith; thread_stack = omega arith; cell_stack = omega arith }
 
 pub tests_say : (s : List ℕ) → ((k : ℕ) → at s k < 256) → {r : Bool} → Decides r (Tested sixteen 2048 s) → SaysState s r
 unfolding sixteen is_state

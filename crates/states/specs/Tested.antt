@@ -2,8 +2,9 @@
 -- That it is what makes a state is in `FromTests` and `ToTests`.
 use Rattle.std.specs.Prelude.{◌≡◌, List, ℕ, ◌+◌, ◌*◌, ◌-◌, ◌<◌, ◌≤◌, length, take, drop}
 use Rattle.paper.specs.Base.{at, word16}
-use Rattle.paper.specs.States.{Card, total, Fits}
+use Rattle.paper.specs.States.{Card, total}
 use Rattle.plans.specs.ByteAt.{cells_from}
+use Rattle.slots.specs.declared.sections.Counts.{Counts}
 use Rattle.states.specs.Rows.{Zeros, marks_after, ThreadAt, CellAt}
 
 -- "0-1: C0 FE, the bytes that follow. 2: version 1. 3, 4, 5: threads (1 to 16), cells (to 64), locks (to 32)."
@@ -32,12 +33,10 @@ pub record Unused (nt nc nl tb from cb size : ℕ) (s : List ℕ) : Type 0 where
   pub threads : Zeros (256 + nt * tb) from s
   pub cells : Zeros (from + nc * cb) size s
 
--- and the lent buffers serve them
-pub record Ready (nt nc nl tb from cb size : ℕ) (s m st : List ℕ) : Type 0 where
+-- and the lent marks serve them
+pub record Ready (nt nc nl tb from cb size : ℕ) (s m : List ℕ) : Type 0 where
   pub within : Within nt nc nl tb from cb size s
   pub marks : length m ≡ nl
-  pub thread_stack : tb ≤ length st
-  pub cell_stack : cb ≤ length st
 
 -- the marks that stand in the header
 abbrev pub marks_of : ℕ → List ℕ → List ℕ
@@ -51,14 +50,21 @@ pub record Planned (nt nc nl tb from cb size room : ℕ) (s : List ℕ) : Type 0
 
 -- ---- on a card
 
-abbrev pub card_of : (threads thread_bytes cells cell_bytes locks : ℕ) → Card
-card_of t tb c cb l = record { threads = t; thread_bytes = tb; cells = c; cell_bytes = cb; locks = l }
+abbrev pub HeaderOf : Card → List ℕ → Type 0
+HeaderOf card s = Header (total card) card.threads card.cells card.locks s
 
-pub record Lent (card : Card) (m st : List ℕ) : Type 0 where
-  pub card_fits : Fits card
-  pub marks : card.locks ≤ length m
-  pub thread_stack : card.thread_bytes ≤ length st
-  pub cell_stack : card.cell_bytes ≤ length st
+module _ (card : Card) (nt : ℕ) (n : Counts) where
+  abbrev pub WithinOf : List ℕ → Type 0
+  WithinOf s = Within nt n.cells n.locks card.thread_bytes (cells_from card) card.cell_bytes (total card) s
+
+  abbrev pub UnusedOf : List ℕ → Type 0
+  UnusedOf s = Unused nt n.cells n.locks card.thread_bytes (cells_from card) card.cell_bytes (total card) s
+
+  abbrev pub ReadyOf : List ℕ → List ℕ → Type 0
+  ReadyOf s m = Ready nt n.cells n.locks card.thread_bytes (cells_from card) card.cell_bytes (total card) s m
+
+  abbrev pub PlannedOf : ℕ → List ℕ → Type 0
+  PlannedOf room s = Planned nt n.cells n.locks card.thread_bytes (cells_from card) card.cell_bytes (total card) room s
 
 pub record Tested (card : Card) (room : ℕ) (s : List ℕ) : Type 0 where
   pub long : total card ≤ length s

@@ -25,7 +25,7 @@ use Rattle.slots.specs.Slot.{thread_test, thread_marks, cell_test}
 use Rattle.slots.specs.SlotTerm.{thread_passes, cell_passes}
 use Rattle.slots.specs.WayTerm.{opens}
 use Rattle.slots.specs.Marks.{Right, takes_all, opened_grants, opened_clears}
-use Rattle.states.specs.Rows.{in_slot, marks_after, ThreadAt, CellAt}
+use Rattle.states.specs.Rows.{in_slot, left_after, marks_after, ThreadAt, CellAt}
 use Rattle.states.specs.Tested.{marks_of, Unused, Tested}
 use Rattle.states.specs.SlotRows.{filled_framed, filled_in, lengths_rest, slots_rest}
 
@@ -63,7 +63,7 @@ module _ (from size lens room nl nc : ℕ) (s m : List ℕ) where
 
   passing : {es : List Term} → All (λ e. placed nc nl e ≡ true) es → All (λ e. length (term_bytes e) ≤ room) es → (i : ℕ)
       → ((j : ℕ) → j < length es → Text (i + j) ≡ term_bytes (get_or es j Term.unit)) → granted (After i) (opened es) ≡ true → Passing i es
-  unfolding marks_after opened join cleared
+  unfolding left_after opened join cleared
   passing all_nil all_nil i f g = record { tests = λ j h. absurd (omega arith); leaves = let e : i + 0 ≡ i = omega arith in ap After e }
   passing (all_cons {x = t} {l = ts} p ps) (all_cons q qs) i f g =
       let w = granted_parts (After i) t ts g in
@@ -116,7 +116,7 @@ module _ (card : Card) (fits : Fits card) (room : ℕ) (long_threads : card.thre
   taken = takes_all (opened S.threads) S.marks right
 
   threads : Passing 256 card.thread_bytes 38 room nl nc s (marks_of nl s) 0 S.threads
-  unfolding marks_after
+  unfolding left_after
   threads =
       passing 256 card.thread_bytes 38 room nl nc s (marks_of nl s) whole.threads (all_map (λ e h. omega arith) in_room.each_thread_bytes) 0
       (λ j l. let z : 0 + j ≡ j = omega arith in rw z (filled_in (thread_read card fits s S holds j l)))
@@ -129,7 +129,7 @@ module _ (card : Card) (fits : Fits card) (room : ℕ) (long_threads : card.thre
   }
 
   left : (k : ℕ) → at (marks_after 256 card.thread_bytes 38 room nl nc s (marks_of nl s) nt) k ≡ 0
-  unfolding marks_after
+  unfolding left_after
   left k =
       let z : 0 + nt ≡ nt = omega arith in
       ap (λ (x : List ℕ). at x k) (rw z at threads.leaves) ∙ ap (λ (x : List ℕ). at (cleared x (opened S.threads)) k) marks_are ∙ taken.1 k

@@ -13,6 +13,7 @@ ghost use Rattle.states.specs.RaceIs.{Raced};
 use crate::plan::is_state_of;
 use crate::races::{Pair, first_pair};
 use places::byte_at;
+use plans::card::SIXTEEN;
 
 // Why a call on a buffer is refused before anything else is looked at: the rows 1 and 18 of document 01's table.
 #[derive(Clone, Copy, Debug, PartialEq, Eq)]
@@ -39,7 +40,7 @@ pub fn is_state(state: &[u8]) -> bool
 {
     let mut marks = [0u8; 32];
     let mut stack = [0u8; 2048];
-    is_state_of(state, 16, 2048, 64, 256, 32, &mut marks, &mut stack)
+    is_state_of(state, SIXTEEN, &mut marks, &mut stack)
 }
 
 // Whether the buffer is fit for a call: long enough, and a state.
@@ -60,5 +61,5 @@ pub fn race(state: &[u8]) -> Result<Option<Pair>, Unfit>
     ensures { Raced state.now result }
 {
     check_state(state)?;
-    Ok(first_pair(state, 2048, byte_at(state, 3) as usize))
+    Ok(first_pair(state, SIXTEEN, byte_at(state, 3)))
 }

@@ -1,67 +1,40 @@
-// Whether a buffer holds a state of a card, in one pass over its bytes. The card's numbers are the caller's, and so are the two buffers that it
-// lends: room for a copy of the lock marks, and a stack as long as the longest slot. There are nt threads in slots of tb bytes from 256 on, nc
-// cells in slots of cb bytes from `from` on, and nl locks; `size` bytes in all.
+// Whether a buffer holds a state of a card, in one pass over its bytes. The card is the caller's, and so are the two buffers that it lends: room
+// for a copy of the lock marks, and a stack as long as the longest slot.
 ghost use Rattle.std.specs.Prelude.{◌≡◌, ◌+◌, ◌≤◌, length, take, drop};
+ghost use Rattle.plans.specs.Card.{card_of};
 ghost use Rattle.states.specs.Decides.{Decides};
-ghost use Rattle.states.specs.Tested.{Header, Within, Unused, Ready, Planned, card_of, Lent, Tested};
+ghost use Rattle.states.specs.Tested.{HeaderOf, WithinOf, UnusedOf, ReadyOf, PlannedOf, Tested};
 
-use crate::rows::{are_cells, are_threads, clear_between};
+use crate::rows::{Rows, all_pass, clear_between};
 use places::{byte_at, is_clear, two_at};
+use plans::card::Card;
+use slots::sections::{Counts, cell_slot, thread_slot};
 
-// Whether the first six bytes are those of a plan of `size` bytes, with counts within the card.
-fn is_header(s: &[u8], size: usize, threads: usize, cells: usize, locks: usize) -> bool
-    requires { 2 ≤ size }
-    ensures { Decides result (Header size threads cells locks s.now) }
+// Whether the first six bytes are those of a plan of the card, with counts within it.
+#[tactic(auto, unfolding(paper::specs::States::total))]
+fn is_header(s: &[u8], card: Card) -> bool
+    ensures { Decides result (HeaderOf (card_of card) s.now) }
 {
-    if two_at(s, 0) != size - 2 {
-        return false;
-    }
-    if byte_at(s, 2) != 1 {
-        return false;
-    }
-    let nt = byte_at(s, 3) as usize;
-    if nt == 0 {
-        return false;
-    }
-    if threads < nt {
-        return false;
-    }
-    if cells < byte_at(s, 4) as usize {
-        return false;
-    }
-    if locks < byte_at(s, 5) as usize {
-        return false;
-    }
-    true
+    let threads = usize::from(byte_at(s, 3));
+    two_at(s, 0) == card.size() - 2
+        && byte_at(s, 2) == 1
+        && threads != 0
+        && threads <= card.threads
+        && usize::from(byte_at(s, 4)) <= card.cells
+        && usize::from(byte_at(s, 5)) <= card.locks
 }
 
 // Whether the unused bytes are zero: marks, lengths, the header's end, slots.
-fn is_unused(
-    s: &[u8],
-    nt: usize,
-    nc: usize,
-    nl: usize,
-    tb: usize,
-    from: usize,
-    cb: usize,
-    size: usize,
-) -> bool
-    requires { Within nt nc nl tb from cb size s.now }
-    ensures { Decides result (Unused nt nc nl tb from cb size s.now) }
+fn is_unused(s: &[u8], card: Card, threads: usize, counts: Counts) -> bool
+    requires { WithinOf (card_of card) threads counts s.now }
+    ensures { Decides result (UnusedOf (card_of card) threads counts s.now) }
 {
-    if !clear_between(s, 6 + nl, 38) {
-        return false;
-    }
-    if !clear_between(s, 38 + 2 * nt, 70) {
-        return false;
-    }
-    if !clear_between(s, 70 + 2 * nc, 256) {
-        return false;
-    }
-    if !clear_between(s, 256 + nt * tb, from) {
-        return false;
-    }
-    clear_between(s, from + nc * cb, size)
+    let from = card.cells_start();
+    clear_between(s, 6 + counts.locks, 38)
+        && clear_between(s, 38 + 2 * threads, 70)
+        && clear_between(s, 70 + 2 * counts.cells, 256)
+        && clear_between(s, 256 + threads * card.thread_bytes, from)
+        && clear_between(s, from + counts.cells * card.cell_bytes, card.size())
 }
 
 // A copy of as many marks as there is room for.
@@ -69,66 +42,59 @@ fn copy_marks(s: &[u8], marks: &mut [u8])
     requires { 6 + length marks.old ≤ length s.now }
     ensures { marks.new ≡ take (length marks.old) (drop 6 s.now) }
 {
-    let mut i: usize = 0;
-    while i < marks.len() {
-        marks[i] = s[6 + i];
-        i += 1;
-    }
+    marks.copy_from_slice(&s[6..6 + marks.len()]);
 }
 
-// Whether a plan with this header holds nt threads, nc cells and nl locks: every section takes its lock's mark away, and none is left.
+// Whether a plan with this header holds so many threads, cells and locks: every section takes its lock's mark away, and none is left.
 fn is_plan(
     s: &[u8],
-    nt: usize,
-    nc: usize,
-    nl: usize,
-    tb: usize,
-    from: usize,
-    cb: usize,
-    size: usize,
+    card: Card,
+    threads: usize,
+    counts: Counts,
     marks: &mut [u8],
     stack: &mut [u8],
 ) -> bool
-    requires { Ready nt nc nl tb from cb size s.now marks.old stack.old }
-    ensures { Decides result (Planned nt nc nl tb from cb size (length stack.old) s.now) }
+    requires { ReadyOf (card_of card) threads counts s.now marks.old }
+    ensures { Decides result (PlannedOf (card_of card) threads counts (length stack.old) s.now) }
 {
+    let threads_in = Rows {
+        first: card.thread(0),
+        count: threads,
+    };
+    let cells_in = Rows {
+        first: card.cell(0),
+        count: counts.cells,
+    };
     copy_marks(s, marks);
-    if !are_threads(s, 256, tb, 38, nt, nl, nc, marks, stack) {
-        return false;
-    }
-    if !is_clear(marks) {
-        return false;
-    }
-    if !are_cells(s, from, cb, 70, nc, nl, nc, stack) {
-        return false;
-    }
-    is_unused(s, nt, nc, nl, tb, from, cb, size)
+    all_pass(
+        s,
+        threads_in,
+        marks,
+        stack,
+        |t, marks, stack| thread_slot(t, counts, marks, stack),
+    ) && is_clear(marks)
+        && all_pass(
+            s,
+            cells_in,
+            marks,
+            stack,
+            |t, _, stack| cell_slot(t, counts, stack),
+        )
+        && is_unused(s, card, threads, counts)
 }
 
-// Whether the buffer holds a state of the card with these numbers.
-pub(crate) fn is_state_of(
-    s: &[u8],
-    threads: usize,
-    tb: usize,
-    cells: usize,
-    cb: usize,
-    locks: usize,
-    marks: &mut [u8],
-    stack: &mut [u8],
-) -> bool
-    requires { Lent (card_of threads tb cells cb locks) marks.old stack.old }
-    ensures { Decides result (Tested (card_of threads tb cells cb locks) (length stack.old) s.now) }
+// Whether the buffer holds a state of the card.
+pub(crate) fn is_state_of(s: &[u8], card: Card, marks: &mut [u8], stack: &mut [u8]) -> bool
+    requires { card.locks ≤ length marks.old }
+    ensures { Decides result (Tested (card_of card) (length stack.old) s.now) }
 {
-    let from = 256 + threads * tb;
-    let size = from + cells * cb;
-    if s.len() < size {
+    if s.len() < card.size() || !is_header(s, card) {
         return false;
     }
-    if !is_header(s, size, threads, cells, locks) {
-        return false;
-    }
-    let nt = byte_at(s, 3) as usize;
-    let nc = byte_at(s, 4) as usize;
-    let nl = byte_at(s, 5) as usize;
-    is_plan(s, nt, nc, nl, tb, from, cb, size, &mut marks[..nl], stack)
+    let threads = usize::from(byte_at(s, 3));
+    let counts = Counts {
+        locks: usize::from(byte_at(s, 5)),
+        cells: usize::from(byte_at(s, 4)),
+    };
+    is_plan(s, card, threads, counts, &mut marks[..counts.locks], stack)
 }

@@ -1,8 +1,12 @@
 // The race finder (document 01, "The running state"): the first pair of threads that are about to read or write one cell.
+ghost use Rattle.std.specs.Prelude.{◌+◌, ◌≤◌, length};
+ghost use Rattle.paper.specs.Base.{word16};
 ghost use Rattle.slots.specs.Way.{Aim};
-ghost use Rattle.states.specs.Pairs.{thread_text, ThreadIn, ThreadsIn, aim_by, PairIs};
+ghost use Rattle.states.specs.Rows.{in_slot};
+ghost use Rattle.states.specs.Pairs.{ThreadsIn, aim_by, PairIs};
 
 use places::two_at;
+use plans::card::{Card, Slot};
 use slots::way::aim;
 
 // Two threads, by number, and the cell that both are about to read or write.
@@ -13,34 +17,33 @@ pub struct Pair {
     pub cell: usize,
 }
 
-// The cell that thread i is about to read or write: 0 where there is none, or one more than its number.
-fn aim_of(s: &[u8], size: usize, i: usize) -> usize
-    requires { ThreadIn size s.now i }
-    ensures { Aim (thread_text size s.now i) result }
+// The cell that the thread in this slot is about to read or write, if it is.
+fn aim_of(s: &[u8], slot: Slot) -> Option<u8>
+    requires { slot.base + word16 s.now slot.place ≤ length s.now }
+    ensures { Aim (in_slot slot.base slot.place s.now) result }
 {
-    let base = 256 + size * i;
-    let end = base + two_at(s, 38 + 2 * i);
-    aim(&s[base..end])
+    let end = slot.base + two_at(s, slot.place);
+    aim(&s[slot.base..end])
 }
 
 // "the first pair i < j, by i and then j, both about to read or write one cell, and that cell; or none", of n threads
-pub(crate) fn first_pair(s: &[u8], size: usize, n: usize) -> Option<Pair>
-    requires { ThreadsIn size s.now n }
-    ensures { PairIs (aim_by size s.now) n result }
+pub(crate) fn first_pair(s: &[u8], card: Card, n: u8) -> Option<Pair>
+    requires { ThreadsIn card.thread_bytes s.now n }
+    ensures { PairIs (aim_by card.thread_bytes s.now) n result }
 {
     let mut found = None;
     'pairs: for i in 0..n {
-        let a = aim_of(s, size, i);
+        let Some(cell) = aim_of(s, card.thread(i)) else {
+            continue;
+        };
         for j in i + 1..n {
-            if a != 0 {
-                if aim_of(s, size, j) == a {
-                    found = Some(Pair {
-                        first: i,
-                        second: j,
-                        cell: a - 1,
-                    });
-                    break 'pairs;
-                }
+            if aim_of(s, card.thread(j)) == Some(cell) {
+                found = Some(Pair {
+                    first: usize::from(i),
+                    second: usize::from(j),
+                    cell: usize::from(cell),
+                });
+                break 'pairs;
             }
         }
     }

@@ -1,12 +1,12 @@
-use mathlib.Core.Path.{refl}
 use native.Mathlib.Omega.{arith}
+use Rattle.laws.specs.Cards.{sixteen_fits}
 use Rattle.paper.specs.States.{sixteen}
-use Rattle.states.specs.IsState.{lent_sixteen, tests_say}
+use Rattle.states.specs.IsState.{tests_say}
 use Rattle.states.proofs.is_state.Goals as goal
 
-pub is_state_of-requires : goal.is_state_of-requires
+pub invariant_of-is_state_of : goal.invariant_of-is_state_of
 unfolding sixteen
-is_state_of-requires c = lent_sixteen _ _ refl refl
+invariant_of-is_state_of c = record { fits = sixteen_fits }
 
 pub returns : goal.returns
 unfolding sixteen

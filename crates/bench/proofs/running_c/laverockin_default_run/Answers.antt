@@ -1,17 +1,12 @@
 -- The run says it all, case by case.
 use mathlib.Core.Path.{refl}
 use Rattle.paper.specs.Cases.{told_default}
-use Rattle.bench.specs.Running.{ran}
+use Rattle.bench.specs.Running.{ran, refusal_told}
 use Rattle.bench.proofs.running_c.laverockin_default_run.Goals as goal
 
-pub returns-in-Ran : goal.returns-in-Ran
+pub returns-in-Ok : goal.returns-in-Ok
 unfolding told_default
-returns-in-Ran c = ran c.default_run.ensures c.in-Ran.is refl
+returns-in-Ok c = ran c.default_run.ensures c.in-Ok.is refl
 
-pub returns-in-BufferShort : goal.returns-in-BufferShort
-unfolding told_default
-returns-in-BufferShort c = ran c.default_run.ensures c.in-BufferShort.is refl
-
-pub returns-in-NoState : goal.returns-in-NoState
-unfolding told_default
-returns-in-NoState c = ran c.default_run.ensures c.in-NoState.is refl
+pub returns-in-Err : goal.returns-in-Err
+returns-in-Err c = ran c.default_run.ensures c.in-Err.is (rw c.number.ensures (refusal_told c.in-Err.unfit))

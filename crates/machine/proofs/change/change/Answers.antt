@@ -1,24 +1,15 @@
 -- One law of `Altering` a change, and its places from the state that is held.
-use Rattle.std.proofs.Common.{◌+◌, ◌<◌, ◌∙◌, sym, subst, arith}
+use Rattle.std.proofs.Common.{◌+◌, subst, arith}
 use Rattle.places.specs.Put.{Puts}
-use Rattle.machine.specs.Altering.{new_cell_few, set_cell_low, new_lock_few, taken_low, released_low}
+use Rattle.machine.specs.Altering.{new_cell_few, new_lock_few}
 use Rattle.machine.specs.Altering.{altered, alters_nothing, alters_new_cell, alters_set_cell, alters_new_lock, alters_taken, alters_released, alters_new_thread}
 use Rattle.machine.proofs.change.change.Goals as goal
 
 pub new_cell-requires : goal.new_cell-requires
 new_cell-requires c = record { state_bound = new_cell_few c.args.card.fits c.requires.altering c.in-NewCell.is }
 
-pub set_cell-requires : goal.set_cell-requires
-set_cell-requires c = record { j_bound = set_cell_low c.args.card.fits c.requires.altering c.in-SetCell.is }
-
 pub overflow_add-count : goal.overflow_add-count
 overflow_add-count c = let h = new_lock_few c.args.card.fits c.requires.altering c.in-NewLock.is in omega (arith, c.byte_at-count.ensures)
-
-pub overflow_add-l : goal.overflow_add-l
-overflow_add-l c = let h = taken_low c.args.card.fits c.requires.altering c.in-Taken.is in omega arith
-
-pub overflow_add-l-in-Released : goal.overflow_add-l-in-Released
-overflow_add-l-in-Released c = let h = released_low c.args.card.fits c.requires.altering c.in-Released.is in omega arith
 
 pub returns-in-Nothing : goal.returns-in-Nothing
 returns-in-Nothing c = altered c.in-Nothing.is alters_nothing

@@ -5,11 +5,11 @@ use Rattle.machine.proofs.kinds.read.Goals as goal
 pub returns-then-s-ne-CELL : goal.returns-then-s-ne-CELL
 returns-then-s-ne-CELL c = read_stuck c.if-s-ne-CELL.true
 
-pub returns-then-size-n : goal.returns-then-size-n
-returns-then-size-n c = read_slot c.if-s-ne-CELL.false c.byte_at-j.ensures c.two_at-n.ensures c.if-size-n.true
+pub returns-then-slot-n : goal.returns-then-slot-n
+returns-then-slot-n c = read_slot c.if-s-ne-CELL.false c.byte_at-j.ensures (rw c.cell-slot.ensures at c.two_at-n.ensures) (rw c.cell-slot.ensures at c.if-slot-n.true)
 
-pub returns-then-state-b : goal.returns-then-state-b
-returns-then-state-b c = read_end c.if-s-ne-CELL.false c.byte_at-j.ensures c.two_at-n.ensures c.if-size-n.false c.if-state-b.true
+pub returns-then-state-end : goal.returns-then-state-end
+returns-then-state-end c = read_end c.if-s-ne-CELL.false c.byte_at-j.ensures (rw c.cell-slot.ensures at c.two_at-n.ensures) (rw c.cell-slot.ensures at c.if-slot-n.false) (rw c.cell-slot.ensures at c.if-state-end.true)
 
 pub returns : goal.returns
-returns c = rw c.goes_on.ensures (read_done c.if-s-ne-CELL.false c.byte_at-j.ensures c.two_at-n.ensures c.fill-m.ensures)
+returns c = rw c.goes_on.ensures (read_done c.if-s-ne-CELL.false c.byte_at-j.ensures (rw c.cell-slot.ensures at c.two_at-n.ensures) (rw c.cell-slot.ensures at c.fill-m.ensures))

@@ -1,7 +1,7 @@
 -- The pass is lent as much of the stack as the slot is long, and so is the clearing after it: `Lent` puts the two together.
 use mathlib.Core.Path.{sym}
 use lib.ListN.{length}
-use Rattle.slots.specs.Found.{one_more}
+use Rattle.slots.specs.Answer.{one_more}
 use Rattle.slots.specs.Lent.{lent_length, lent_again, swept_all}
 use Rattle.slots.specs.ClosedLoop.{closed_short, closed_by}
 use Rattle.slots.proofs.closed.closed.Goals as goal

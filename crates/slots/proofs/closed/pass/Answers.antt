@@ -1,9 +1,9 @@
 -- What is to come decides: the loop keeps the stack, the binders and the count of open sections, and each way out is one law of
 -- `ClosedLoop`.
-use mathlib.Core.Path.{refl, sym, ap, ◌∙◌}
+use mathlib.Core.Path.{refl, sym, ◌∙◌}
 use Rattle.std.proofs.Common.{add-one}
+use Prim.Native.Nat.{◌-◌}
 use native.Mathlib.Omega.{arith}
-use Rattle.slots.specs.Found.{one_more}
 use Rattle.slots.specs.ClosedLoop.{passing_start, passing_part, passing_past, passing_over, passing_end, passing_short, passing_uncoded}
 use Rattle.slots.specs.ClosedLoop.{passing_unbound, passing_cut, passing_full, passing_on}
 use Rattle.slots.proofs.closed.pass.Goals as goal
@@ -17,27 +17,27 @@ returns-then-s-i c = passing_short (passing_part c.loop-next.invariant c.in-Some
 pub returns-then-not-is_code : goal.returns-then-not-is_code
 returns-then-not-is_code c =
     passing_uncoded (passing_part c.loop-next.invariant c.in-Some.is) c.if-s-i.false refl
-    (sym c.is_code.ensures ∙ c.if-not-is_code.true)
+    (sym c.if-not-is_code.ensures)
 
 pub returns-then-not-field_ok : goal.returns-then-not-field_ok
 returns-then-not-field_ok c =
     passing_unbound (passing_part c.loop-next.invariant c.in-Some.is) c.if-s-i.false refl
-    (sym c.is_code.ensures ∙ c.if-not-is_code.false) c.from.result (c.from.ensures ∙ c.byte.ensures)
-    (sym c.field_ok.ensures ∙ c.if-not-field_ok.true)
+    (sym c.if-not-is_code.ensures) c.from.result (c.from.ensures ∙ c.byte.ensures)
+    (sym c.if-not-field_ok.ensures)
 
 pub returns-then-s-i-2 : goal.returns-then-s-i-2
 returns-then-s-i-2 c =
     passing_cut (passing_part c.loop-next.invariant c.in-Some.is) c.if-s-i.false refl
-    (sym c.is_code.ensures ∙ c.if-not-is_code.false) c.from.result (c.from.ensures ∙ c.byte.ensures)
-    (sym c.field_ok.ensures ∙ c.if-not-field_ok.false) c.fields-w.result
-    c.fields-w.ensures.says (omega arith)
+    (sym c.if-not-is_code.ensures) c.from.result (c.from.ensures ∙ c.byte.ensures)
+    (sym c.if-not-field_ok.ensures) (c.width-w.result - 1)
+    (omega (arith, c.width-w.ensures.says)) (omega arith)
 
 pub returns-then-stack-part : goal.returns-then-stack-part
 returns-then-stack-part c =
     passing_full (passing_part c.loop-next.invariant c.in-Some.is) c.if-s-i.false refl
-    (sym c.is_code.ensures ∙ c.if-not-is_code.false) c.from.result (c.from.ensures ∙ c.byte.ensures)
-    (sym c.field_ok.ensures ∙ c.if-not-field_ok.false) c.fields-w.result
-    c.fields-w.ensures.says (omega (arith, c.pushes.ensures, c.if-stack-part.true))
+    (sym c.if-not-is_code.ensures) c.from.result (c.from.ensures ∙ c.byte.ensures)
+    (sym c.if-not-field_ok.ensures) (c.width-w.result - 1)
+    (omega (arith, c.width-w.ensures.says)) (omega (arith, c.pushes.ensures, c.if-stack-part.true))
 
 pub after-next-requires : goal.after-next-requires
 after-next-requires c =
@@ -51,9 +51,9 @@ pub loop-next-preserved : goal.loop-next-preserved
 loop-next-preserved c =
     let l = passing_part c.loop-next.invariant c.in-Some.is in
     passing_on l c.if-s-i.false refl
-    (sym c.is_code.ensures ∙ c.if-not-is_code.false) c.from.result (c.from.ensures ∙ c.byte.ensures)
-    (sym c.field_ok.ensures ∙ c.if-not-field_ok.false) c.fields-w.result
-    c.fields-w.ensures.says _ (omega arith) (omega arith)
+    (sym c.if-not-is_code.ensures) c.from.result (c.from.ensures ∙ c.byte.ensures)
+    (sym c.if-not-field_ok.ensures) (c.width-w.result - 1)
+    (omega (arith, c.width-w.ensures.says)) _ (omega arith) (omega arith)
     (omega (arith, c.pushes.ensures, c.if-stack-part.false, l.long, l.top))
     c.opening-n.result c.opening-n.ensures.says c.after-next.auto.stack c.after-next.ensures
 

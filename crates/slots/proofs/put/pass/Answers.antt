@@ -1,6 +1,6 @@
 -- What is written, the stretch up to here and what is to come are the whole; no bytes take more of the stack than there is (`PutLoop`).
 use mathlib.Core.Path.{◌≡◌, refl, sym, ◌∙◌}
-use Prim.Native.Nat.{◌+◌}
+use Prim.Native.Nat.{◌+◌, ◌-◌}
 use native.Mathlib.Omega.{arith}
 use Rattle.slots.specs.PutLoop.{putting_start, putting_part, putting_past, putting_end, putting_over, putting_length}
 use Rattle.slots.specs.PutLoop.{putting_short, putting_value, putting_stack, putting_code}
@@ -31,18 +31,18 @@ pub shape_of-dst-then-dst-out : goal.shape_of-dst-then-dst-out
 shape_of-dst-then-dst-out c = c.fill_both-out.auto.dst ∙ putting_length c.loop-i.invariant
 
 pub returns-then-dst-out : goal.returns-then-dst-out
-returns-then-dst-out c = putting_short (putting_part c.loop-i.invariant c.in-Some.is) c.loop-i-test.true refl (sym c.is_hit.ensures ∙ c.if-is_hit.true) c.fill_both-out.ensures (omega (arith, c.if-dst-out.true, c.fill_both-out.auto.dst))
+returns-then-dst-out c = putting_short (putting_part c.loop-i.invariant c.in-Some.is) c.loop-i-test.true refl (sym c.if-is_hit.ensures) c.fill_both-out.ensures (omega (arith, c.if-dst-out.true, c.fill_both-out.auto.dst))
 
 pub loop-i-preserved-then-is_hit : goal.loop-i-preserved-then-is_hit
-loop-i-preserved-then-is_hit c = putting_value (putting_part c.loop-i.invariant c.in-Some.is) c.loop-i-test.true refl (sym c.is_hit.ensures ∙ c.if-is_hit.true) c.fill_both-out.ensures (omega (arith, c.if-dst-out.false, c.fill_both-out.auto.dst)) c.ended-next.auto.stack c.ended-next.ensures
+loop-i-preserved-then-is_hit c = putting_value (putting_part c.loop-i.invariant c.in-Some.is) c.loop-i-test.true refl (sym c.if-is_hit.ensures) c.fill_both-out.ensures (omega (arith, c.if-dst-out.false, c.fill_both-out.auto.dst)) c.ended-next.auto.stack c.ended-next.ensures
 
 pub after-next-requires : goal.after-next-requires
 after-next-requires c = record { top = putting_stack (putting_part c.loop-i.invariant c.in-Some.is) c.loop-i-test.true refl; deep = let l = putting_part c.loop-i.invariant c.in-Some.is in omega (arith, l.deep, l.long, c.loop-i-test.true) }
 
 pub loop-i-preserved : goal.loop-i-preserved
 loop-i-preserved c =
-    let e : c.loop-i.i + (c.fields.result + 1) ≡ c.loop-i.i + c.fields.result + 1 = omega arith in
-    rw e (putting_code (putting_part c.loop-i.invariant c.in-Some.is) c.loop-i-test.true refl (sym c.is_hit.ensures ∙ c.if-is_hit.false) c.fields.result c.fields.ensures.says c.after-next.auto.stack c.after-next.ensures)
+    let e : c.loop-i.i + c.width-i.result ≡ c.loop-i.i + (c.width-i.result - 1) + 1 = omega (arith, c.width-i.ensures.says) in
+    rw e (putting_code (putting_part c.loop-i.invariant c.in-Some.is) c.loop-i-test.true refl (sym c.if-is_hit.ensures) (c.width-i.result - 1) (omega (arith, c.width-i.ensures.says)) c.after-next.auto.stack c.after-next.ensures)
 
 pub slice_bounds-fill-count-2 : goal.slice_bounds-fill-count-2
 slice_bounds-fill-count-2 c = c.loop-i.invariant.inside

@@ -1,7 +1,7 @@
 -- The ways of `Slot`.
 use mathlib.Core.Path.{sym, subst}
 use borrow.Author.Tests.{eqb-true}
-use Rattle.slots.specs.Found.{asked_no, asked_yes}
+use Rattle.slots.specs.Answer.{asked_no, asked_yes}
 use Rattle.slots.specs.Slot.{CellSlot, cell_none, cell_by, cell_empty}
 use Rattle.slots.proofs.sections.cell_slot.Goals as goal
 

@@ -1,7 +1,7 @@
 -- The sections from here on, held against the marks that are left, answer for them all.
 use mathlib.Core.Path.{refl, sym, subst}
 use native.Mathlib.Omega.{arith}
-use Rattle.slots.specs.Found.{Answer, one_more}
+use Rattle.slots.specs.Answer.{Answer, one_more}
 use Rattle.slots.specs.Sections.{Claimed, opens_of, claimed_length}
 use Rattle.slots.specs.SectionsLoop.{opening_start, opening_fails, opening_ends, opening_on, opening_past, claim_few}
 use Rattle.slots.proofs.sections.open_sections.Goals as goal

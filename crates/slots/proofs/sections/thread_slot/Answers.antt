@@ -1,7 +1,7 @@
 -- The ways of `Slot`.
 use mathlib.Core.Path.{refl, sym, subst, ◌∙◌}
 use native.Mathlib.Omega.{arith}
-use Rattle.slots.specs.Found.{one_more_eq}
+use Rattle.slots.specs.Answer.{one_more_eq}
 use Rattle.slots.specs.Slot.{ThreadSlot, thread_none, thread_by}
 use Rattle.slots.proofs.sections.thread_slot.Goals as goal
 

@@ -7,6 +7,3 @@ abbrev pub invariant-loop-n : goal.invariant-loop-n
 invariant-loop-n l =
     (l.n ≤ l.fn.part.sp) × (l.depth ≤ l.fn.part.d) × (l.stack ≡ l.initial.stack)
     × (ended l.depth (stack_of l.stack l.n) ≡ ended l.fn.part.d (stack_of l.initial.stack l.fn.part.sp))
-
-abbrev pub decreases-loop-n : goal.decreases-loop-n
-decreases-loop-n l = l.n

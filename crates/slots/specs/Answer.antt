@@ -1,6 +1,6 @@
 -- Answers that may be none. The definitions of this crate count in numbers where 0 is none; the code answers with an Option. A place is itself
 -- and never 0, as an expression takes a byte; a count or a number is one more than itself.
-use Rattle.std.specs.Prelude.{◌≡◌, refl, ℕ, zero, suc, ◌<◌, Bool, true, false, not, eqb, Option, Some, None}
+use Rattle.std.specs.Prelude.{◌≡◌, refl, ℕ, zero, suc, ◌<◌, Bool, true, false, not, eqb, Option, Some, None, unwrap_or}
 use Rattle.std.specs.Option.{option_eq}
 use Rattle.std.proofs.Common.{sym, ap, ◌∙◌, arith, true≢false, ne_eqb}
 use borrow.Author.Tests.{eq-eqb, eqb-true, eqb-false}
@@ -9,26 +9,31 @@ abbrev pub Answer : Type 0
 Answer = Option ℕ
 
 -- a place, where 0 is none
-abbrev pub found : ℕ → Answer
-found zero = None
-found (suc n) = Some (suc n)
+abbrev pub nonzero : ℕ → Answer
+nonzero zero = None
+nonzero (suc n) = Some (suc n)
 
 -- an answer as a number, where 0 is none
 abbrev pub one_more : Answer → ℕ
 one_more None = 0
 one_more (Some n) = suc n
 
-pub found_at : (x e : ℕ) → 0 < e → e ≡ x → Some e ≡ found x
-found_at zero e p h = absurd (omega arith)
-found_at (suc x) e p h = rw h
+pub nonzero_at : (x e : ℕ) → 0 < e → e ≡ x → Some e ≡ nonzero x
+nonzero_at zero e p h = absurd (omega arith)
+nonzero_at (suc x) e p h = rw h
 
-pub found_some : (x e : ℕ) → Some e ≡ found x → (e ≡ x) × (0 < e)
-found_some zero e h = cc
-found_some (suc x) e h = let z : e ≡ suc x = cc in (z, omega arith)
+pub nonzero_some : (x e : ℕ) → Some e ≡ nonzero x → (e ≡ x) × (0 < e)
+nonzero_some zero e h = cc
+nonzero_some (suc x) e h = let z : e ≡ suc x = cc in (z, omega arith)
 
-pub found_none : (x : ℕ) → None ≡ found x → x ≡ 0
-found_none zero h = refl
-found_none (suc x) h = cc
+pub nonzero_none : (x : ℕ) → None ≡ nonzero x → x ≡ 0
+nonzero_none zero h = refl
+nonzero_none (suc x) h = cc
+
+-- a caller that takes 0 for none
+pub nonzero_or : (x : ℕ) → unwrap_or (nonzero x) 0 ≡ x
+nonzero_or zero = refl
+nonzero_or (suc n) = refl
 
 -- two answers with one number are one
 pub one_more_one : (r r' : Answer) → one_more r ≡ one_more r' → r ≡ r'
