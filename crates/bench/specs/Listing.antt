@@ -3,8 +3,7 @@ use Rattle.std.specs.Prelude.{◌≡◌, List, ℕ}
 use Rattle.std.proofs.Common.{sym, ap, ◌∙◌}
 use Rattle.paper.specs.Calls.{list_call}
 use Rattle.paper.specs.Cases.{ItemTold, told_item}
-use Rattle.lister.specs.Means.{told, stands, Lists}
-use Rattle.lister.specs.declared.Item.{Item}
+use Rattle.lister.specs.Means.{Answer, told, stands, Lists}
 
 pub record ListsC (image : List ℕ) (i r code place next : ℕ) : Type 0 where
   pub says : record { answer = r; code = code; place = place } ≡ told_item (list_call image i).says
@@ -18,7 +17,7 @@ lists_c_unique a b =
     (ap (λ (x : ItemTold). x.answer) e, ap (λ (x : ItemTold). x.code) e, ap (λ (x : ItemTold). x.place) e, a.stands ∙ sym b.stands)
 
 -- what the lister tells, by its case
-pub listed : {image : List ℕ} {i : ℕ} {item given : Item} {r code place next : ℕ} → Lists image i item → item ≡ given
+pub listed : {image : List ℕ} {i : ℕ} {item given : Answer} {r code place next : ℕ} → Lists image i item → item ≡ given
     → record { answer = r; code = code; place = place } ≡ told_item (told given) → next ≡ stands i given → ListsC image i r code place next
 listed {i = i} l e says n = record {
   says = says ∙ ap (λ x. told_item (told x)) (sym e) ∙ ap told_item l.says;

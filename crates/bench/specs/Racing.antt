@@ -1,5 +1,5 @@
 -- The race finder for C: above the number of the answer stands whether there is a pair, and above it the pair's two threads and the cell.
-use Rattle.std.specs.Prelude.{◌≡◌, refl, Bool, true, false, List, ℕ, ltb, length}
+use Rattle.std.specs.Prelude.{◌≡◌, refl, Bool, true, false, List, ℕ, ltb, length, Err}
 use Rattle.std.proofs.Common.{sym, ap, ◌∙◌, ltb-true, ltb-false}
 use Rattle.std.proofs.Math.Option.{Option, none, some}
 use Rattle.paper.specs.States.{State, sixteen, total}
@@ -11,6 +11,11 @@ use Rattle.laws.specs.Cards.{sixteen_fits}
 use Rattle.laws.specs.StateBytes.{state_holds}
 use Rattle.laws.specs.CallLaws.{race_call_lem, race_short, race_foreign}
 use Rattle.laws.specs.Touched.{SmallRace, race_small}
+use Rattle.paper.specs.Cases.{told_race}
+use Rattle.states.specs.declared.Unfit.{Unfit}
+use Rattle.states.specs.declared.Unfit.TheVariants.{BufferShort, NoState}
+use Rattle.states.specs.Unfit.{number}
+use Rattle.states.specs.RaceIs.{case_of}
 use Rattle.bench.specs.Packing.{below}
 
 unfoldable pub packed : RaceCall → ℕ
@@ -23,6 +28,12 @@ pub record RacesC (s : List ℕ) (r : ℕ) : Type 0 where
 -- no second number fits
 pub races_c_unique : {s : List ℕ} {r q : ℕ} → RacesC s r → RacesC s q → r ≡ q
 races_c_unique a b = a.says ∙ sym b.says
+
+-- a refusal's number stands alone
+pub packed_unfit : (u : Unfit) → packed (told_race (case_of (Err u))) ≡ number u
+unfolding packed below told_race
+packed_unfit BufferShort = refl
+packed_unfit NoState = refl
 
 -- ---- the parts are small, so each has its bits
 

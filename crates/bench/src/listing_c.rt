@@ -1,8 +1,6 @@
 // The lister. Its parts are whole words, so they are written through references.
 ghost use Rattle.bench.specs.Listing.{ListsC};
 
-use lister::Item;
-
 pub fn laverockin_next(
     image: &[u8],
     at: usize,
@@ -13,23 +11,23 @@ pub fn laverockin_next(
     ensures { ListsC image.now at result code.new place.new next.new }
 {
     match lister::next(image, at) {
-        Item::Code(c, p, j) => {
-            *code = c as u64;
-            *place = p;
-            *next = j;
+        Ok(Some(item)) => {
+            *code = u64::from(u8::from(item.code));
+            *place = item.place;
+            *next = item.next;
             0
         }
-        Item::End => {
+        Ok(None) => {
             *code = 0;
             *place = 0;
             *next = at;
             0
         }
-        Item::Refused(n, p) => {
+        Err(refusal) => {
             *code = 0;
-            *place = p;
+            *place = refusal.place();
             *next = at;
-            n as u64
+            u64::from(refusal.number())
         }
     }
 }

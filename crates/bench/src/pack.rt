@@ -1,11 +1,22 @@
-// A part below the others.
-ghost use Rattle.std.specs.Prelude.{◌<◌, ◌^◌};
-ghost use Rattle.bench.specs.Packing.{Packs};
+// Answers as one number: a part below the others, and a refusal.
+ghost use Rattle.std.specs.Prelude.{◌≡◌, ◌<◌, ◌≤◌, ◌^◌};
+ghost use Rattle.answers.specs.Numbers.{number, place};
+ghost use Rattle.bench.specs.Packing.{Packs, below};
+
+use answers::Refusal;
 
 // `low` in bits 0 to 7, the rest above them.
 pub(crate) fn below(low: u8, rest: u64) -> u64
     requires { rest < 2 ^ 56 }
     ensures { Packs low rest result }
 {
-    rest * 256 + (low as u64)
+    rest * 256 + u64::from(low)
+}
+
+// Above the number of a refusal stands its place.
+pub(crate) fn refused(refusal: Refusal) -> u64
+    requires { place refusal ≤ 4096 }
+    ensures { result ≡ below (number refusal) (place refusal) }
+{
+    below(refusal.number(), refusal.place() as u64)
 }

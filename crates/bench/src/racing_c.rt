@@ -5,27 +5,26 @@ ghost use Rattle.paper.specs.Cases.{told_race};
 ghost use Rattle.bench.specs.Racing.{packed, Fits, RacesC};
 
 use crate::pack::below;
-use states::races::Race;
+use states::races::Pair;
+use states::{Unfit, race};
 
 // Above the number of the answer: in bits 8 to 15 whether there is a pair, and above them its two threads and the cell, 8 bits each.
-fn pack(race: Race) -> u64
-    requires { Fits (told_race (case_of race)) }
-    ensures { result ≡ packed (told_race (case_of race)) }
+fn pack(found: Result<Option<Pair>, Unfit>) -> u64
+    requires { Fits (told_race (case_of found)) }
+    ensures { result ≡ packed (told_race (case_of found)) }
 {
-    match race {
-        Race::Between(first, second, cell) => {
-            let threads = below(first as u8, below(second as u8, cell as u64));
+    match found {
+        Ok(Some(pair)) => {
+            let threads = below(pair.first as u8, below(pair.second as u8, pair.cell as u64));
             below(0, below(1, threads))
         }
-        Race::NoRace => 0,
-        Race::BufferShort => 1,
-        Race::NoState => 18,
+        Ok(None) => 0,
+        Err(unfit) => u64::from(unfit.number()),
     }
 }
 
 pub fn laverockin_race(state: &[u8]) -> u64
     ensures { RacesC state.now result }
 {
-    let race = states::race(state);
-    pack(race)
+    pack(race(state))
 }

@@ -7,6 +7,7 @@ ghost use Rattle.bench.specs.Stepping.{packed, StepsC};
 
 use crate::pack::below;
 use machine::answer::{Made, NoStep};
+use machine::entry::step;
 use machine::numbers::answer_of;
 
 // Above the number of the answer: the kind in bits 8 to 15, and above it the number.
@@ -18,7 +19,7 @@ fn pack(answer: Result<Made, NoStep>) -> u64
         Ok(made) => below(0, below(made.kind.number(), made.number as u64)),
         Err(why) => match why {
             NoStep::WaitsFor(lock) => below(21, below(0, lock as u64)),
-            _ => answer_of(answer) as u64,
+            _ => u64::from(answer_of(answer)),
         },
     }
 }
@@ -26,6 +27,5 @@ fn pack(answer: Result<Made, NoStep>) -> u64
 pub fn laverockin_step(state: &mut [u8], thread: u64) -> u64
     ensures { StepsC state.old thread result state.new }
 {
-    let answer = machine::entry::step(state, thread);
-    pack(answer)
+    pack(step(state, thread))
 }
