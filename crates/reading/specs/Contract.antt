@@ -1,11 +1,11 @@
 -- What `read_image` answers, on every input: what the paper's reader says of the same bytes (document 01, "Numbers of the answers", refusals 2 to
 -- 9); and what the functions inside the crate ask and answer.
-use Rattle.std.specs.Prelude.{◌≡◌, List, ℕ, ◌<◌, length, get_or, Result, Ok}
-use Rattle.paper.specs.Reading.{read_exp, read_image}
+use Rattle.std.specs.Prelude.{◌≡◌, List, ℕ, ◌-◌, ◌<◌, Result, Ok}
+use Rattle.paper.specs.Reading.{lock_name, lock_set, read_stated, read_exp, read_image}
 use Rattle.paper.specs.Verdict.{Out, ok, ◌▷◌}
 use Rattle.answers.specs.declared.Refusal.{Refusal}
 use Rattle.answers.specs.Said as answer
-use Rattle.types.specs.Told.{told}
+use Rattle.types.specs.Told.{told, on}
 use Rattle.reading.specs.declared.scope.Scope.{Scope}
 use Rattle.reading.specs.declared.first.Lead.{Lead}
 use Rattle.reading.specs.declared.first.Lead.TheVariants.{Whole, Last}
@@ -16,11 +16,19 @@ pub record ImageRead (s : List ℕ) (r : Result ℕ Refusal) : Type 0 where
 
 -- ---- inside the crate
 
--- the code c of an expression stands at i, and some of the nesting is left for it
-pub record Due (s : List ℕ) (i c : ℕ) (u : Scope) : Type 0 where
-  pub inside : i < length s
-  pub code : get_or s i 0 ≡ c
-  pub deep : 0 < u.left
+-- what is told of a function's fields, and of a new cell's, under n locks
+abbrev pub function_fields : ℕ → List ℕ → ℕ → Out ℕ
+function_fields n s i = on (told (read_stated 1 s n i)) (λ p. told (lock_set s n p))
+
+abbrev pub cell_fields : ℕ → List ℕ → ℕ → Out ℕ
+cell_fields n s i = on (told (lock_name s n i)) (λ p. told (read_stated 1 s n p))
+
+-- what is told of the first part of an expression under v variables and n locks, with d of the nesting left; and of an if's type and two parts
+abbrev pub first_part : ℕ → ℕ → ℕ → List ℕ → ℕ → Out ℕ
+first_part v n d s i = told (read_exp 1 (d - 1) s n v i)
+
+abbrev pub two_of_if : ℕ → ℕ → ℕ → List ℕ → ℕ → Out ℕ
+two_of_if v n d s i = on (told (read_stated 1 s n i)) (λ p. on (first_part v n d s p) (first_part v n d s))
 
 -- what is told of an expression of which this was read before its last part
 abbrev pub led : List ℕ → Lead → Out ℕ

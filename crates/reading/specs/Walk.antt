@@ -1,5 +1,5 @@
 -- How an expression is gone through: its own fields, then its parts in order. Each is a table by the code, with the last line for every code that
--- has no other. The first reading has an arm for most codes and asks here of the rest; the proofs of the typing go by the whole table.
+-- has no other. The reading has an arm for each code; the proofs of the typing go by these tables.
 use Rattle.std.specs.Prelude.{ℕ, ◌+◌, List, ltb, eqb}
 use Rattle.types.specs.Stated.{pick, name_at, set_at, stated_at}
 use Rattle.paper.specs.Verdict.{Out, ok, refused}

@@ -1,12 +1,11 @@
 // An expression, read from left to right: its code, its own fields, then its parts. The code is looked at once, in `read_lead`: asked again for
 // its fields, its parts and what they are under, it cost a third of the time of this reading, in branches that no processor foresees.
-ghost use Rattle.std.specs.Prelude.{◌≡◌};
+// `Ok(f()?)` makes an answer anew: handed on as it is, it would be copied through memory.
+ghost use Rattle.std.specs.Prelude.{◌≡◌, ◌<◌};
 ghost use Rattle.answers.specs.Said.{said};
 ghost use Rattle.types.specs.Told.{told};
 ghost use Rattle.paper.specs.Reading.{word, index, read_exp};
-ghost use Rattle.codes.specs.Codes.{exp_byte};
-ghost use Rattle.reading.specs.Walk.{parts};
-ghost use Rattle.reading.specs.Contract.{Due, Led};
+ghost use Rattle.reading.specs.Contract.{function_fields, cell_fields, first_part, two_of_if, Led};
 
 use crate::scope::Scope;
 use answers::Refusal;
@@ -46,52 +45,44 @@ fn read_index(s: &[u8], at: usize, vars: u8) -> Result<usize, Refusal>
     }
 }
 
-// A function: the argument's type and the lock set, then the body, under one variable more.
-fn lead_function(s: &[u8], at: usize, under: Scope) -> Result<Lead, Refusal>
-    requires { Due s.now at 4 under }
-    ensures { Led s.now at under result }
+// A function's fields: the argument's type and the lock set.
+fn function_fields(s: &[u8], at: usize, locks: u8) -> Result<usize, Refusal>
+    ensures { said result ≡ function_fields locks s.now at }
 {
-    let p = read_stated(s, at + 1, under.locks)?;
-    let q = read_set(s, p, under.locks)?;
-    Ok(Lead::Last(q, under.body()))
+    let p = read_stated(s, at, locks)?;
+    Ok(read_set(s, p, locks)?)
 }
 
-// A new cell: the lock's name and the content's type, then the content.
-fn lead_cell(s: &[u8], at: usize, under: Scope) -> Result<Lead, Refusal>
-    requires { Due s.now at 6 under }
-    ensures { Led s.now at under result }
+// A new cell's fields: the lock's name and the content's type.
+fn cell_fields(s: &[u8], at: usize, locks: u8) -> Result<usize, Refusal>
+    ensures { said result ≡ cell_fields locks s.now at }
 {
-    let p = read_name(s, at + 1, under.locks)?;
-    let q = read_stated(s, p, under.locks)?;
-    Ok(Lead::Last(q, under.part()))
+    let p = read_name(s, at, locks)?;
+    Ok(read_stated(s, p, locks)?)
 }
 
-// Two parts and no field: apply, write, section, then and add; and let, whose second part is under one variable more.
+// The first of two parts: a function of its own, so that the room for its answer is cleared where a part is read and not for each expression.
 #[cycle(leads)]
-fn lead_two(s: &[u8], at: usize, code: ExpCode, under: Scope) -> Result<Lead, Refusal>
-    requires { Due s.now at (exp_byte code) under × (parts (exp_byte code) ≡ 2) }
-    ensures { Led s.now at under result }
+fn first_part(s: &[u8], at: usize, under: Scope) -> Result<usize, Refusal>
+    requires { 0 < under.left }
+    ensures { said result ≡ first_part under.vars under.locks under.left s.now at }
 {
-    let p = read_exp(s, at + 1, under.part())?;
-    match code {
-        ExpCode::Let => Ok(Lead::Last(p, under.body())),
-        _ => Ok(Lead::Last(p, under.part())),
-    }
+    Ok(read_exp(s, at, under.part())?)
 }
 
-// An if: the result's type, then three parts.
+// An if before its last part: the result's type, then two parts.
 #[cycle(leads)]
-fn lead_if(s: &[u8], at: usize, under: Scope) -> Result<Lead, Refusal>
-    requires { Due s.now at 15 under }
-    ensures { Led s.now at under result }
+fn two_of_if(s: &[u8], at: usize, under: Scope) -> Result<usize, Refusal>
+    requires { 0 < under.left }
+    ensures { said result ≡ two_of_if under.vars under.locks under.left s.now at }
 {
-    let p = read_stated(s, at + 1, under.locks)?;
+    let p = read_stated(s, at, under.locks)?;
     let q = read_exp(s, p, under.part())?;
-    let r = read_exp(s, q, under.part())?;
-    Ok(Lead::Last(r, under.part()))
+    Ok(read_exp(s, q, under.part())?)
 }
 
-// The expression at `at`, up to its last part. Of its code: 5, 4, then 7. What an arm calls is called nowhere else, so that the compiler takes it in.
+// The expression at `at`, up to its last part. Of its code: 5, 4, then 7. What an arm calls is short or called nowhere else, so that the compiler
+// takes it in.
 #[cycle(leads)]
 fn read_lead(s: &[u8], at: usize, under: Scope) -> Result<Lead, Refusal>
     ensures { Led s.now at under result }
@@ -109,8 +100,8 @@ fn read_lead(s: &[u8], at: usize, under: Scope) -> Result<Lead, Refusal>
         ExpCode::Unit => Ok(Lead::Whole(at + 1)),
         ExpCode::Number => Ok(Lead::Whole(read_number(s, at + 1)?)),
         ExpCode::Variable => Ok(Lead::Whole(read_index(s, at + 1, under.vars)?)),
-        ExpCode::Function => lead_function(s, at, under),
-        ExpCode::NewCell => lead_cell(s, at, under),
+        ExpCode::Function => Ok(Lead::Last(function_fields(s, at + 1, under.locks)?, under.body())),
+        ExpCode::NewCell => Ok(Lead::Last(cell_fields(s, at + 1, under.locks)?, under.part())),
         ExpCode::Read | ExpCode::Fork => Ok(Lead::Last(at + 1, under.part())),
         ExpCode::NewLock => {
             if under.locks < 32 {
@@ -119,13 +110,11 @@ fn read_lead(s: &[u8], at: usize, under: Scope) -> Result<Lead, Refusal>
                 Err(Refusal::OverLimit(at))
             }
         }
-        ExpCode::If => lead_if(s, at, under),
-        ExpCode::Apply
-        | ExpCode::Write
-        | ExpCode::Section
-        | ExpCode::Let
-        | ExpCode::Then
-        | ExpCode::Add => { lead_two(s, at, code, under) }
+        ExpCode::If => Ok(Lead::Last(two_of_if(s, at + 1, under)?, under.part())),
+        ExpCode::Let => Ok(Lead::Last(first_part(s, at + 1, under)?, under.body())),
+        ExpCode::Apply | ExpCode::Write | ExpCode::Section | ExpCode::Then | ExpCode::Add => {
+            Ok(Lead::Last(first_part(s, at + 1, under)?, under.part()))
+        }
     }
 }
 

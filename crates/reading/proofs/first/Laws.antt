@@ -4,7 +4,6 @@ use mathlib.Core.List.{List}
 use mathlib.Core.Bool.{Bool, true, false}
 use Prim.Native.Nat.{ℕ, zero, suc, ◌+◌, ◌-◌, ◌≤◌, ◌<◌}
 use native.Mathlib.Omega.{arith}
-use native.Mathlib.Nat.{add-zero}
 use native.Mathlib.Numerals.{sub-one}
 use native.Mathlib.Decide.{ℕ_discrete}
 use lib.ListN.{length, get_or}
@@ -22,7 +21,7 @@ use Rattle.types.specs.Told.{told, on}
 use Rattle.types.proofs.stated.Laws.{told_then, told_as}
 use Rattle.reading.specs.Placed.{Exp, lam, app, cell, write, sync, let_in, seq, add, if_not0}
 use Rattle.reading.specs.First.{other, code_of, code_at, num_at, var_at, exp_as, exp_at, too_deep}
-use Rattle.reading.specs.Walk.{fields, parts, locks1, binds2}
+use Rattle.reading.specs.Walk.{fields, locks1}
 
 step : (P : ℕ → Type 0) (b k : ℕ) → b ≤ suc k → P (suc k) → (b ≤ k → P b) → P b
 step P b k u p f = go (ℕ_discrete b (suc k))
@@ -147,23 +146,17 @@ module _ (d v n : ℕ) (s : List ℕ) (at : ℕ) where
   one_with b (inl e) = rw e read_with
   one_with b (inr e) = rw e fork_with
 
-  pub two_with : (b : ExpCode) → parts (exp_byte b) ≡ 2 → Both (v + binds2 (exp_byte b)) ≡ With (exp_byte b)
-  unfolding exp_as code_of parts binds2
-  two_with code.Unit e = absurd (omega arith)
-  two_with code.Number e = absurd (omega arith)
-  two_with code.Variable e = absurd (omega arith)
-  two_with code.Function e = absurd (omega arith)
-  two_with code.Apply e = simp add-zero (both (app at) v)
-  two_with code.NewCell e = absurd (omega arith)
-  two_with code.Read e = absurd (omega arith)
-  two_with code.Write e = simp add-zero (both (write at) v)
-  two_with code.Fork e = absurd (omega arith)
-  two_with code.NewLock e = absurd (omega arith)
-  two_with code.Section e = simp add-zero (both (sync at) v)
-  two_with code.Let e = both (let_in at) (v + 1)
-  two_with code.Then e = simp add-zero (both (seq at) v)
-  two_with code.Add e = simp add-zero (both (add at) v)
-  two_with code.If e = absurd (omega arith)
+  pub let_with : Both (v + 1) ≡ With 12
+  unfolding exp_as code_of
+  let_with = both (let_in at) (v + 1)
+
+  pub two_with : (b : ExpCode) → (b ≡ code.Apply) ⊎ (b ≡ code.Write) ⊎ (b ≡ code.Section) ⊎ (b ≡ code.Then) ⊎ (b ≡ code.Add) → Both v ≡ With (exp_byte b)
+  unfolding exp_as code_of
+  two_with b (inl e) = rw e (both (app at) v)
+  two_with b (inr (inl e)) = rw e (both (write at) v)
+  two_with b (inr (inr (inl e))) = rw e (both (sync at) v)
+  two_with b (inr (inr (inr (inl e)))) = rw e (both (seq at) v)
+  two_with b (inr (inr (inr (inr e)))) = rw e (both (add at) v)
 
 module _ (v n : ℕ) (s : List ℕ) (at : ℕ) where
   pub exp_ended : (d : ℕ) → length s ≤ at → refused 5 (length s) ≡ told (exp_at d v n s at)
@@ -199,38 +192,6 @@ module _ (v n : ℕ) (s : List ℕ) (at : ℕ) where
     unfolding exp_at
     exp_with zero b f e = absurd (omega arith)
     exp_with (suc d) b f e = simp (sub-one (suc d), code_in, e)
-
-pub parts_two : (b : ExpCode) → (b ≡ code.Apply) ⊎ (b ≡ code.Write) ⊎ (b ≡ code.Section) ⊎ (b ≡ code.Let) ⊎ (b ≡ code.Then) ⊎ (b ≡ code.Add) → parts (exp_byte b) ≡ 2
-unfolding parts
-parts_two b (inl e) = rw e
-parts_two b (inr (inl e)) = rw e
-parts_two b (inr (inr (inl e))) = rw e
-parts_two b (inr (inr (inr (inl e)))) = rw e
-parts_two b (inr (inr (inr (inr (inl e))))) = rw e
-parts_two b (inr (inr (inr (inr (inr e))))) = rw e
-
--- a let binds a variable for its second part, and nothing else does
-pub let_binds : (b : ExpCode) → b ≡ code.Let → binds2 (exp_byte b) ≡ 1
-unfolding binds2
-let_binds b e = rw e
-
-pub other_binds : (b : ExpCode) → (b ≡ code.Let → ⊥) → binds2 (exp_byte b) ≡ 0
-unfolding binds2
-other_binds code.Unit f = refl
-other_binds code.Number f = refl
-other_binds code.Variable f = refl
-other_binds code.Function f = refl
-other_binds code.Apply f = refl
-other_binds code.NewCell f = refl
-other_binds code.Read f = refl
-other_binds code.Write f = refl
-other_binds code.Fork f = refl
-other_binds code.NewLock f = refl
-other_binds code.Section f = refl
-other_binds code.Let f = absurd (f refl)
-other_binds code.Then f = refl
-other_binds code.Add f = refl
-other_binds code.If f = refl
 
 -- a new lock's fields are there only below 32 locks
 pub lock_room : (b v n : ℕ) (s : List ℕ) (at : ℕ) {r : Out ℕ} {p y : ℕ} → r ≡ fields b v n s at → r ≡ ok p → y ≡ locks1 b → n ≤ 32 → n + y ≤ 32

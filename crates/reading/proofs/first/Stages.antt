@@ -1,7 +1,7 @@
 -- The ways out of the functions that read an expression up to its last part: each takes what is told of the whole (`With`, Laws), and why.
 use mathlib.Core.Path.{◌≡◌, refl, ap, sym, ◌∙◌}
 use mathlib.Core.List.{List}
-use Prim.Native.Nat.{ℕ, ◌-◌, ◌≤◌, ◌<◌}
+use Prim.Native.Nat.{ℕ, ◌-◌, ◌≤◌, ◌<◌, ◌+◌}
 use native.Mathlib.Omega.{arith}
 use lib.Dec.{lit≤}
 use lib.ListN.{length, get_or}
@@ -12,16 +12,19 @@ use Rattle.paper.specs.Verdict.{Out, ok, refused}
 use Rattle.answers.specs.declared.Refusal.{Refusal}
 use Rattle.answers.specs.declared.Refusal.TheVariants.{NoSuchCode, CutImage, OverLimit}
 use Rattle.answers.specs.Numbers.{number, place}
+use Rattle.answers.specs.Said.{said}
 use Rattle.codes.specs.declared.ExpCode.{ExpCode}
 use Rattle.codes.specs.declared.ExpCode.TheVariants as code
 use Rattle.codes.specs.Codes.{exp_byte}
-use Rattle.types.specs.Told.{told}
+use Rattle.types.specs.Told.{told, on}
+use Rattle.types.proofs.stated.Laws.{on_refused, on_next}
+use Rattle.types.proofs.stated.Agree.{name_is, set_is, stated_is}
 use Rattle.reading.specs.declared.scope.Scope.{Scope}
 use Rattle.reading.specs.declared.first.Lead.{Lead}
 use Rattle.reading.specs.declared.first.Lead.TheVariants.{Whole, Last}
 use Rattle.reading.specs.First.{exp_at}
-use Rattle.reading.specs.Contract.{Due, Led}
-use Rattle.reading.proofs.first.Laws.{E, With, exp_ended, exp_zero, exp_high, exp_deep, exp_with}
+use Rattle.reading.specs.Contract.{function_fields, cell_fields, first_part, two_of_if, Led}
+use Rattle.reading.proofs.first.Laws.{E, With, exp_ended, exp_zero, exp_high, exp_deep, exp_with, function_with, cell_with, let_with, two_with, if_with}
 use Rattle.reading.proofs.first.Agree.{exp_told, exp_back}
 
 no_last : {A : Type 0} {e : Refusal} {p : ℕ} {w : Scope} → ◌≡◌ {A = Result Lead Refusal} (Err e) (Ok (Last p w)) → A
@@ -53,9 +56,45 @@ in_codes code.Then = (lit≤ tt, lit≤ tt)
 in_codes code.Add = (lit≤ tt, lit≤ tt)
 in_codes code.If = (lit≤ tt, lit≤ tt)
 
--- what is read of a part, which stands under a variables and b locks, with c left
-pub part_back : (s : List ℕ) (p : ℕ) {r : Out ℕ} {a b c v n d : ℕ} → (a ≡ v) × (b ≡ n) × (c ≡ d) → r ≡ told (read_exp 1 c s b a p) → r ≡ told (exp_at d v n s p)
-part_back s p h e = rw (h.0, h.1, h.2) at (exp_back s p _ _ _ e)
+-- the code c stands at i, and some of the nesting is left
+pub record Due (s : List ℕ) (i c : ℕ) (u : Scope) : Type 0 where
+  pub inside : i < length s
+  pub code : get_or s i 0 ≡ c
+  pub deep : 0 < u.left
+
+-- ---- what the fields and parts before the last one tell, and then the last one
+
+on_on : (o o' : Out ℕ) (f h k : ℕ → Out ℕ) → o ≡ o' → ((p : ℕ) → on (f p) h ≡ k p) → on (on o f) h ≡ on o' k
+on_on (ok p) o' f h k e g = g p ∙ ap (λ o. on o k) e
+on_on (refused n p) o' f h k e g = ap (λ o. on o k) e
+
+module _ (d v n : ℕ) (s : List ℕ) (at : ℕ) where
+  part_is : (v n p : ℕ) → told (read_exp 1 d s n v p) ≡ told (exp_at d v n s p)
+  part_is v n p = exp_back s p d n v refl
+
+  pub function_law : on (function_fields n s (at + 1)) (λ q. E d v n s at (v + 1) n q) ≡ With d v n s at 4
+  function_law =
+      on_on _ _ _ _ _ (sym (ap told (stated_is n s (at + 1)))) (λ p. ap (λ o. on o (λ q. E d v n s at (v + 1) n q)) (sym (ap told (set_is n s p))))
+      ∙ function_with d v n s at
+
+  pub cell_law : on (cell_fields n s (at + 1)) (λ q. E d v n s at v n q) ≡ With d v n s at 6
+  cell_law =
+      on_on _ _ _ _ _ (sym (ap told (name_is n s (at + 1)))) (λ p. ap (λ o. on o (λ q. E d v n s at v n q)) (sym (ap told (stated_is n s p))))
+      ∙ cell_with d v n s at
+
+module _ (d v n : ℕ) (s : List ℕ) (at : ℕ) where
+  pub let_law : on (first_part v n d s (at + 1)) (λ q. E (d - 1) v n s at (v + 1) n q) ≡ With (d - 1) v n s at 12
+  let_law = ap (λ o. on o (λ q. E (d - 1) v n s at (v + 1) n q)) (part_is (d - 1) v n s at v n (at + 1)) ∙ let_with (d - 1) v n s at
+
+  pub two_law : (b : ExpCode) → (b ≡ code.Apply) ⊎ (b ≡ code.Write) ⊎ (b ≡ code.Section) ⊎ (b ≡ code.Then) ⊎ (b ≡ code.Add)
+      → on (first_part v n d s (at + 1)) (λ q. E (d - 1) v n s at v n q) ≡ With (d - 1) v n s at (exp_byte b)
+  two_law b e = ap (λ o. on o (λ q. E (d - 1) v n s at v n q)) (part_is (d - 1) v n s at v n (at + 1)) ∙ two_with (d - 1) v n s at b e
+
+  pub if_law : on (two_of_if v n d s (at + 1)) (λ q. E (d - 1) v n s at v n q) ≡ With (d - 1) v n s at 15
+  if_law =
+      on_on _ _ _ _ _ (sym (ap told (stated_is n s (at + 1)))) (λ p.
+      on_on _ _ _ _ _ (part_is (d - 1) v n s at v n p) (λ q. ap (λ o. on o (λ r. E (d - 1) v n s at v n r)) (part_is (d - 1) v n s at v n q)))
+      ∙ if_with (d - 1) v n s at
 
 module _ (s : List ℕ) (i : ℕ) (u : Scope) where
   abbrev Told : Out ℕ → Type 0
@@ -102,3 +141,11 @@ module _ (s : List ℕ) (i : ℕ) (u : Scope) where
     -- the last part stands under w
     pub led_last : {p v n : ℕ} {w : Scope} → E (u.left - 1) u.vars u.locks s i v n p ≡ x → (w.vars ≡ v) × (w.locks ≡ n) × (w.left ≡ u.left - 1) → Led s i u (Ok (Last p w))
     led_last e h = last_told (with_told (rw (h.0, h.1, h.2) e)) (omega (arith, due.deep, h.2))
+
+  -- the code c is due, and r answers what stands before the last part, which stands under w
+  module _ {c : ℕ} (due : Due s i c u) {y : Out ℕ} (h : ℕ → Out ℕ) (law : on y h ≡ With (u.left - 1) u.vars u.locks s i c) {r : Result ℕ Refusal} (f : said r ≡ y) where
+    pub before_refused : {z : Refusal} → r ≡ Err z → Led s i u (Err z)
+    before_refused g = led_wrong due law (on_refused h f (ap said g))
+
+    pub before_last : {p v n : ℕ} {w : Scope} → r ≡ Ok p → E (u.left - 1) u.vars u.locks s i v n p ≡ h p → (w.vars ≡ v) × (w.locks ≡ n) × (w.left ≡ u.left - 1) → Led s i u (Ok (Last p w))
+    before_last g k m = led_last due law (on_next h f (ap said g) k) m

@@ -3,16 +3,13 @@
 -- and each arm of the match has the law of its code.
 use mathlib.Core.Path.{◌≡◌, refl, sym, ◌∙◌, ap}
 use native.Mathlib.Omega.{arith}
-use native.Mathlib.Nat.{add-zero}
 use Rattle.std.proofs.Common.{rules}
 use Rattle.std.specs.Prelude.{Err}
 use Rattle.answers.specs.Said.{said}
 use Rattle.codes.specs.declared.ExpCode.TheVariants as code
-use Rattle.types.proofs.stated.Laws.{on_refused, on_next}
-use Rattle.types.proofs.stated.Agree.{stated_back}
-use Rattle.reading.proofs.first.Laws.{unit_with, number_with, variable_with, one_with, lock_with, lock_over, if_with, two_with, parts_two, let_binds, other_binds}
+use Rattle.reading.proofs.first.Laws.{unit_with, number_with, variable_with, one_with, lock_with, lock_over}
 use Rattle.reading.proofs.first.Agree.{number_back, index_back}
-use Rattle.reading.proofs.first.Stages.{led_ended, led_other, led_deep, led_wrong, led_whole, led_last, due, due_at, part_back}
+use Rattle.reading.proofs.first.Stages.{led_ended, led_other, led_deep, led_wrong, led_whole, led_last, due, due_at, before_refused, before_last, function_law, cell_law, let_law, two_law, if_law}
 use Rattle.reading.proofs.first.+leads.Goals as goal
 
 pub read_exp-loop-p-init : goal.read_exp-loop-p-init
@@ -62,7 +59,7 @@ read_lead-returns-in_ok-read_index-in-Variable t c =
     led_whole _ _ _ (due _ _ _ c.if-s-at.false code.Variable c.in-Ok.ensures c.in-Variable.is c.if-under-eq0.false) (variable_with _ _ _ _ _) (sym (ap said c.in_ok-read_index-in-Variable.was) ∙ index_back _ _ _ c.read_index.ensures)
 
 pub read_lead-returns-in-Read : goal.read_lead-returns-in-Read
-read_lead-returns-in-Read t c = led_last _ _ _ (due_at _ _ _ c.if-s-at.false _ c.in-Ok.ensures c.if-under-eq0.false) (one_with _ _ _ _ _ _ c.in-Read.is) refl c.part.ensures
+read_lead-returns-in-Read t c = led_last _ _ _ (due_at _ _ _ c.if-s-at.false _ c.in-Ok.ensures c.if-under-eq0.false) (one_with _ _ _ _ _ _ c.in-Read.is) refl c.part-in-Read.ensures
 
 pub read_lead-returns-then-under-lt32 : goal.read_lead-returns-then-under-lt32
 read_lead-returns-then-under-lt32 t c =
@@ -71,57 +68,47 @@ read_lead-returns-then-under-lt32 t c =
 pub read_lead-returns-else-under-lt32 : goal.read_lead-returns-else-under-lt32
 read_lead-returns-else-under-lt32 t c = led_wrong _ _ _ (due _ _ _ c.if-s-at.false code.NewLock c.in-Ok.ensures c.in-NewLock.is c.if-under-eq0.false) (lock_over _ _ _ _ _ c.if-under-lt32.false) refl
 
-pub read_lead-lead_two-requires : goal.read_lead-lead_two-requires
-read_lead-lead_two-requires t c = (omega arith, (due_at _ _ _ c.if-s-at.false _ c.in-Ok.ensures c.if-under-eq0.false, parts_two _ c.in-Apply.is))
+pub read_lead-returns-in_err-function_fields-in-Function : goal.read_lead-returns-in_err-function_fields-in-Function
+read_lead-returns-in_err-function_fields-in-Function t c =
+    let q : c.from_residual-in_err-function_fields-in-Function.result ≡ Err c.in_err-function_fields-in-Function.field-0.0 = search rules in
+    rw q (before_refused _ _ _ (due _ _ _ c.if-s-at.false code.Function c.in-Ok.ensures c.in-Function.is c.if-under-eq0.false) _ (function_law _ _ _ _ _) c.function_fields.ensures c.in_err-function_fields-in-Function.was)
 
-pub lead_two-returns-in_err-p : goal.lead_two-returns-in_err-p
-lead_two-returns-in_err-p t c =
-    let q : c.from_residual.result ≡ Err c.in_err-p.field-0.0 = search rules in
-    rw q (
-    led_wrong _ _ _ c.requires.0 (two_with _ _ _ _ _ _ c.requires.1)
-    (on_refused _ (part_back _ _ c.part.ensures c.read_exp.ensures) (ap said c.in_err-p.was))
-    )
+pub read_lead-returns-in_ok-function_fields-in-Function : goal.read_lead-returns-in_ok-function_fields-in-Function
+read_lead-returns-in_ok-function_fields-in-Function t c =
+    before_last _ _ _ (due _ _ _ c.if-s-at.false code.Function c.in-Ok.ensures c.in-Function.is c.if-under-eq0.false) _ (function_law _ _ _ _ _) c.function_fields.ensures c.in_ok-function_fields-in-Function.was refl c.body.ensures
 
-pub lead_two-returns-in-Let : goal.lead_two-returns-in-Let
-lead_two-returns-in-Let t c =
-    led_last _ _ _ c.requires.0 (two_with _ _ _ _ _ _ c.requires.1)
-    (on_next _ (part_back _ _ c.part.ensures c.read_exp.ensures) (ap said c.in_ok-p.was) (rw (let_binds _ c.in-Let.is)))
-    c.body.ensures
+pub read_lead-returns-in_err-cell_fields-in-NewCell : goal.read_lead-returns-in_err-cell_fields-in-NewCell
+read_lead-returns-in_err-cell_fields-in-NewCell t c =
+    let q : c.from_residual-in_err-cell_fields-in-NewCell.result ≡ Err c.in_err-cell_fields-in-NewCell.field-0.0 = search rules in
+    rw q (before_refused _ _ _ (due _ _ _ c.if-s-at.false code.NewCell c.in-Ok.ensures c.in-NewCell.is c.if-under-eq0.false) _ (cell_law _ _ _ _ _) c.cell_fields.ensures c.in_err-cell_fields-in-NewCell.was)
 
-pub lead_two-returns-in_default : goal.lead_two-returns-in_default
-lead_two-returns-in_default t c =
-    led_last _ _ _ c.requires.0 (two_with _ _ _ _ _ _ c.requires.1)
-    (on_next _ (part_back _ _ c.part.ensures c.read_exp.ensures) (ap said c.in_ok-p.was) (rw (other_binds _ c.in_default.not-Let, add-zero)))
-    c.part-in_default.ensures
+pub read_lead-returns-in_ok-cell_fields-in-NewCell : goal.read_lead-returns-in_ok-cell_fields-in-NewCell
+read_lead-returns-in_ok-cell_fields-in-NewCell t c =
+    before_last _ _ _ (due _ _ _ c.if-s-at.false code.NewCell c.in-Ok.ensures c.in-NewCell.is c.if-under-eq0.false) _ (cell_law _ _ _ _ _) c.cell_fields.ensures c.in_ok-cell_fields-in-NewCell.was refl c.part.ensures
 
-pub lead_if-returns-in_err-p : goal.lead_if-returns-in_err-p
-lead_if-returns-in_err-p t c =
-    let q : c.from_residual.result ≡ Err c.in_err-p.field-0.0 = search rules in
-    rw q (led_wrong _ _ _ c.requires (if_with _ _ _ _ _) (on_refused _ (stated_back _ _ _ c.read_stated.ensures) (ap said c.in_err-p.was)))
+pub read_lead-returns-in_err-two_of_if-in-If : goal.read_lead-returns-in_err-two_of_if-in-If
+read_lead-returns-in_err-two_of_if-in-If t c =
+    let q : c.from_residual-in_err-two_of_if-in-If.result ≡ Err c.in_err-two_of_if-in-If.field-0.0 = search rules in
+    rw q (before_refused _ _ _ (due _ _ _ c.if-s-at.false code.If c.in-Ok.ensures c.in-If.is c.if-under-eq0.false) _ (if_law _ _ _ _ _) c.two_of_if.ensures c.in_err-two_of_if-in-If.was)
 
-pub lead_if-returns-in_err-q : goal.lead_if-returns-in_err-q
-lead_if-returns-in_err-q t c =
-    let q : c.from_residual-in_err-q.result ≡ Err c.in_err-q.field-0.0 = search rules in
-    rw q (
-    led_wrong _ _ _ c.requires (if_with _ _ _ _ _)
-    (on_next _ (stated_back _ _ _ c.read_stated.ensures) (ap said c.in_ok-p.was)
-    (on_refused _ (part_back _ _ c.part.ensures c.read_exp.ensures) (ap said c.in_err-q.was)))
-    )
+pub read_lead-returns-in_ok-two_of_if-in-If : goal.read_lead-returns-in_ok-two_of_if-in-If
+read_lead-returns-in_ok-two_of_if-in-If t c =
+    before_last _ _ _ (due _ _ _ c.if-s-at.false code.If c.in-Ok.ensures c.in-If.is c.if-under-eq0.false) _ (if_law _ _ _ _ _) c.two_of_if.ensures c.in_ok-two_of_if-in-If.was refl c.part-in-If.ensures
 
-pub lead_if-returns-in_err-r : goal.lead_if-returns-in_err-r
-lead_if-returns-in_err-r t c =
-    let q : c.from_residual-in_err-r.result ≡ Err c.in_err-r.field-0.0 = search rules in
-    rw q (
-    led_wrong _ _ _ c.requires (if_with _ _ _ _ _)
-    (on_next _ (stated_back _ _ _ c.read_stated.ensures) (ap said c.in_ok-p.was)
-    (on_next _ (part_back _ _ c.part.ensures c.read_exp.ensures) (ap said c.in_ok-q.was)
-    (on_refused _ (part_back _ _ c.part-2.ensures c.read_exp-2.ensures) (ap said c.in_err-r.was))))
-    )
+pub read_lead-returns-in_err-first_part-in-Let : goal.read_lead-returns-in_err-first_part-in-Let
+read_lead-returns-in_err-first_part-in-Let t c =
+    let q : c.from_residual-in_err-first_part-in-Let.result ≡ Err c.in_err-first_part-in-Let.field-0.0 = search rules in
+    rw q (before_refused _ _ _ (due _ _ _ c.if-s-at.false code.Let c.in-Ok.ensures c.in-Let.is c.if-under-eq0.false) _ (let_law _ _ _ _ _) c.first_part.ensures c.in_err-first_part-in-Let.was)
 
-pub lead_if-returns : goal.lead_if-returns
-lead_if-returns t c =
-    led_last _ _ _ c.requires (if_with _ _ _ _ _)
-    (on_next _ (stated_back _ _ _ c.read_stated.ensures) (ap said c.in_ok-p.was)
-    (on_next _ (part_back _ _ c.part.ensures c.read_exp.ensures) (ap said c.in_ok-q.was)
-    (on_next _ (part_back _ _ c.part-2.ensures c.read_exp-2.ensures) (ap said c.in_ok-r.was) refl)))
-    c.part-3.ensures
+pub read_lead-returns-in_ok-first_part-in-Let : goal.read_lead-returns-in_ok-first_part-in-Let
+read_lead-returns-in_ok-first_part-in-Let t c =
+    before_last _ _ _ (due _ _ _ c.if-s-at.false code.Let c.in-Ok.ensures c.in-Let.is c.if-under-eq0.false) _ (let_law _ _ _ _ _) c.first_part.ensures c.in_ok-first_part-in-Let.was refl c.body-in-Let.ensures
+
+pub read_lead-returns-in_err-first_part-in-Apply : goal.read_lead-returns-in_err-first_part-in-Apply
+read_lead-returns-in_err-first_part-in-Apply t c =
+    let q : c.from_residual-in_err-first_part-in-Apply.result ≡ Err c.in_err-first_part-in-Apply.field-0.0 = search rules in
+    rw q (before_refused _ _ _ (due_at _ _ _ c.if-s-at.false _ c.in-Ok.ensures c.if-under-eq0.false) _ (two_law _ _ _ _ _ _ c.in-Apply.is) c.first_part-in-Apply.ensures c.in_err-first_part-in-Apply.was)
+
+pub read_lead-returns-in_ok-first_part-in-Apply : goal.read_lead-returns-in_ok-first_part-in-Apply
+read_lead-returns-in_ok-first_part-in-Apply t c =
+    before_last _ _ _ (due_at _ _ _ c.if-s-at.false _ c.in-Ok.ensures c.if-under-eq0.false) _ (two_law _ _ _ _ _ _ c.in-Apply.is) c.first_part-in-Apply.ensures c.in_ok-first_part-in-Apply.was refl c.part-in-Apply.ensures

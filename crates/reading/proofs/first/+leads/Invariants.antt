@@ -11,8 +11,8 @@ invariant-read_exp-loop-p l =
 abbrev pub decreases-read_exp-loop-p : goal.decreases-read_exp-loop-p
 decreases-read_exp-loop-p l = l.below.left
 
-abbrev pub decreases-lead_if : goal.decreases-lead_if
-decreases-lead_if l = 3 * l.under.left
+abbrev pub decreases-two_of_if : goal.decreases-two_of_if
+decreases-two_of_if l = 3 * l.under.left
 
 abbrev pub decreases-read_exp : goal.decreases-read_exp
 decreases-read_exp l = 3 * l.under.left + 2
@@ -20,5 +20,5 @@ decreases-read_exp l = 3 * l.under.left + 2
 abbrev pub decreases-read_lead : goal.decreases-read_lead
 decreases-read_lead l = 3 * l.under.left + 1
 
-abbrev pub decreases-lead_two : goal.decreases-lead_two
-decreases-lead_two l = 3 * l.under.left
+abbrev pub decreases-first_part : goal.decreases-first_part
+decreases-first_part l = 3 * l.under.left
