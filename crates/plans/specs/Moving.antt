@@ -18,7 +18,7 @@ use Rattle.plans.specs.Slots.{at_before, at_behind, zeros_at, pad_at}
 use Rattle.places.specs.Cases.{side}
 use Rattle.plans.specs.Store.{Room, two_put}
 use Rattle.plans.specs.Filling.{back, back_length, back_before, back_in, back_behind, stored_made}
-use Rattle.plans.specs.Exchange.{exchanged, Inside, Exchanges}
+use Rattle.plans.specs.Exchange.{exchanged, Exchanges}
 
 -- of the bytes at `from` those from number lo up to hi stand at `to`, and the rest is as it was
 pub record Moved (from to lo hi : ℕ) (before after : List ℕ) : Type 0 where
@@ -138,9 +138,6 @@ module _ (used p q : ℕ) (mid slot : List ℕ) (room : Rewritable used p q mid 
             ∙ zeros_at (length (take (length both - n) (drop n both))) (k - n) ∙ sym (new_behind k (omega arith))
 
 -- ---- the whole exchange
-
-pub exchanges_still : {base used place p q : ℕ} {mid before : List ℕ} → (Inside base used p q before → ⊥) → Exchanges base used place p q mid before before
-exchanges_still n = record { made = λ a b h. absurd (n (record { order = a; part = b; slot = h })); still = λ _. refl }
 
 -- the code's length and slot are those of the bytes as they become
 module _ (base used place p q : ℕ) (mid before : List ℕ) (order : p ≤ q) (part : q ≤ used) (n size : ℕ) (count : n ≡ used - (q - p) + length mid)

@@ -1,6 +1,6 @@
 -- What a store does to a buffer: a slot with its length. Only the places named change.
 use Rattle.std.specs.Prelude.{◌≡◌, ◌⊎◌, ◌≢◌, Bool, true, false, List, ℕ, ◌+◌, ◌-◌, ◌/◌, ◌%◌, ◌<◌, ◌≤◌, length, set}
-use Rattle.std.proofs.Common.{sym, ap, ◌∙◌, inl, inr, true≢false, arith, ext_get_or}
+use Rattle.std.proofs.Common.{sym, ap, ◌∙◌, inl, inr, arith, ext_get_or}
 use Rattle.paper.specs.Base.{at}
 use Rattle.places.specs.Cases.{side, same?}
 
@@ -49,9 +49,6 @@ two_put place n s = set (set s place (n / 256 % 256)) (place + 1) (n % 256)
 pub record NoRoom (len base size place : ℕ) (r : Bool) : Type 0 where
   pub none : r ≡ true → base + size ≤ len → place + 2 ≤ base → ⊥
   pub room : r ≡ false → (base + size ≤ len) × (place + 2 ≤ base)
-
-pub no_room : {len base size place : ℕ} → (base + size ≤ len → place + 2 ≤ base → ⊥) → NoRoom len base size place true
-no_room n = record { none = λ e. n; room = λ e. absurd (true≢false e) }
 
 pub record Stores (base size place : ℕ) (x before after : List ℕ) : Type 0 where
   pub made : Room base size place x before → Stored base size place x before after

@@ -54,7 +54,7 @@ impl Card {
     pub fn thread(self, i: u8) -> Slot
         ensures { result ≡ thread_slot (card_of self) i }
     {
-        let i = i as usize;
+        let i = usize::from(i);
         Slot {
             base: 256 + self.thread_bytes * i,
             size: self.thread_bytes,
@@ -67,7 +67,7 @@ impl Card {
     pub fn cell(self, j: u8) -> Slot
         ensures { result ≡ cell_slot (card_of self) j }
     {
-        let j = j as usize;
+        let j = usize::from(j);
         Slot {
             base: self.cells_start() + self.cell_bytes * j,
             size: self.cell_bytes,
