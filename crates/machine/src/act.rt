@@ -26,6 +26,7 @@ pub(crate) struct Goes {
     pub also: Also,
 }
 
+// The answer of a kind of step that is made.
 pub(crate) fn goes_on(kind: Kind, number: usize, size: usize, also: Also) -> Result<Goes, NoStep>
     ensures { result ≡ going kind number size also }
 {

@@ -57,8 +57,7 @@ pub(crate) fn act(
     requires { Redex s.now second }
     ensures { Acts (card_of card) s.now state.now (length out.old) out.new result }
 {
-    let c = s[0];
-    match c {
+    match s[0] {
         APPLY => apply(parts(s, second), out, stack),
         NEW_CELL => make_cell(s, byte_at(state, 4), card, out),
         READ => read(s, state, card, out),

@@ -57,8 +57,7 @@ pub(crate) fn make_lock(
     if room <= l {
         return Err(NoStep::TooMany);
     }
-    let v = [LOCK, count];
-    let n = put(&s[1..], &v, out, 0, stack);
+    let n = put(&s[1..], &[LOCK, count], out, 0, stack);
     goes_on(Kind::LockMade, l, n, Also::NewLock)
 }
 
@@ -72,8 +71,7 @@ pub(crate) fn make_cell(s: &[u8], count: u8, card: Card, out: &mut [u8]) -> Resu
     if card.cell_bytes + 1 < s.len() {
         return Err(NoStep::TooLong);
     }
-    let v = [CELL, count];
-    let n = fill(&v, out, 0);
+    let n = fill(&[CELL, count], out, 0);
     goes_on(Kind::CellMade, j, n, Also::NewCell)
 }
 
@@ -108,8 +106,7 @@ pub(crate) fn write(p: Parts, size: usize, out: &mut [u8]) -> Result<Goes, NoSte
     if size < p.bytes.len() - p.second {
         return Err(NoStep::TooLong);
     }
-    let v = [UNIT];
-    let n = fill(&v, out, 0);
+    let n = fill(&[UNIT], out, 0);
     goes_on(Kind::Write, j as usize, n, Also::SetCell(j, p.second))
 }
 
@@ -120,8 +117,7 @@ pub(crate) fn fork(s: &[u8], count: u8, room: usize, out: &mut [u8]) -> Result<G
     if room <= i {
         return Err(NoStep::TooMany);
     }
-    let v = [UNIT];
-    let n = fill(&v, out, 0);
+    let n = fill(&[UNIT], out, 0);
     goes_on(Kind::Fork, i, n, Also::NewThread(count))
 }
 
@@ -136,8 +132,7 @@ pub(crate) fn take(p: Parts, state: &[u8], out: &mut [u8]) -> Result<Goes, NoSte
     if byte_at(state, 6 + l as usize) != 0 {
         return Err(NoStep::WaitsFor(l as usize));
     }
-    let v = [OPEN, l];
-    let n = fill_both(&v, &p.bytes[p.second..], out, 0);
+    let n = fill_both(&[OPEN, l], &p.bytes[p.second..], out, 0);
     goes_on(Kind::Take, l as usize, n, Also::Taken(l))
 }
 
@@ -176,8 +171,7 @@ pub(crate) fn add(p: Parts, out: &mut [u8]) -> Result<Goes, NoStep>
     let [a, b, c, d] = word_at(s, 2)
         .wrapping_add(word_at(s, p.second + 1))
         .to_be_bytes();
-    let v = [NUMBER, a, b, c, d];
-    let m = fill(&v, out, 0);
+    let m = fill(&[NUMBER, a, b, c, d], out, 0);
     goes_on(Kind::Add, 0, m, Also::Nothing)
 }
 
