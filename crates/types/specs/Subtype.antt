@@ -1,15 +1,14 @@
 -- The subtype test on the bytes of two types, each in its buffer (document 01, "What the judge gives"): "Subtype: equal types; or two
 -- Functions whose arguments go the other way, results the same way, and the first set within the second. Refs must be equal." The buffers may
 -- hold anything: a type that its buffer cuts is related to none, and a byte that is no type's code is a type of its own, of one byte.
-use Rattle.std.specs.Prelude.{ℕ, zero, suc, ◌+◌, ◌-◌, ◌≡◌, refl, List, [], ◌∷◌, ◌++◌, Bool, true, false, ◌&&◌, eqb, ltb, leb, length}
-use Rattle.std.proofs.Math.Option.{Option, none, some}
+use Rattle.std.specs.Prelude.{ℕ, zero, suc, ◌+◌, ◌-◌, ◌≡◌, refl, List, [], ◌∷◌, ◌++◌, Bool, true, false, ◌&&◌, eqb, ltb, leb, length, Option, Some, None, option_and_then}
 use Rattle.paper.specs.Base.{choose, at, word32}
 use Rattle.paper.specs.Sets.{within, less, bits}
 use Rattle.paper.specs.Types.{Way, below, above, same, turned, sets_related}
+use Rattle.codes.specs.declared.TypeCode.{TypeCode}
+use Rattle.codes.specs.Codes.{type_byte}
 use Rattle.types.specs.declared.subtype.Mode.{Mode}
 use Rattle.types.specs.declared.subtype.Mode.TheVariants.{Same, Below, Above}
-use Rattle.types.specs.declared.subtype.Cmp.{Cmp}
-use Rattle.types.specs.declared.subtype.Cmp.TheVariants.{Next, Differ}
 
 -- the paper's word for a case of the code's enum
 abbrev pub way : Mode → Way
@@ -27,10 +26,15 @@ sets_at w x i y j = leb (i + 4) (length x) && (leb (j + 4) (length y) && sets_re
 
 -- what follows a test that must pass, and a part that must be so related
 abbrev pub must : Bool → (Unit {0} → Option ℕ) → Option ℕ
-must b f = choose b f (λ _. none)
+must b f = choose b f (λ _. None)
 
 abbrev pub after : Option ℕ → (ℕ → Option ℕ) → Option ℕ
-after o f = elim o [ none ↦ none | some p ↦ f p ]
+after o f = option_and_then f o
+
+-- a code stands at both places
+pub record Found (c : TypeCode) (x : List ℕ) (i : ℕ) (y : List ℕ) (j : ℕ) : Type 0 where
+  pub both : same_byte x i y j ≡ true
+  pub code : type_byte c ≡ at x i
 
 -- how a part of the first type, at one place, is held against a part of the second, at another
 abbrev pub Part : Type 0
@@ -44,35 +48,30 @@ result_at part w x i y j p = let q = j + (p - i) in must (sets_at w x p y q) λ 
 unfoldable pub type_at : Part → Way → List ℕ → ℕ → List ℕ → ℕ → Option ℕ
 type_at part w x i y j =
     must (same_byte x i y j) λ _.
-    choose (eqb (at x i) 0x22) (λ _. must (same_byte x (i + 1) y (j + 1)) λ _. some (i + 2)) λ _.
+    choose (eqb (at x i) 0x22) (λ _. must (same_byte x (i + 1) y (j + 1)) λ _. Some (i + 2)) λ _.
     choose (eqb (at x i) 0x23) (λ _. must (same_byte x (i + 1) y (j + 1)) λ _. part same (i + 2) (j + 2)) λ _.
     choose (eqb (at x i) 0x24) (λ _. after (part (turned w) (i + 1) (j + 1)) (result_at part w x i y j)) λ _.
-    some (i + 1)
+    Some (i + 1)
 
 -- The type at i of x held against the one at j of y, as w says: where so related, the place after the first. A part starts further on than
 -- its type, so the length of x is depth enough (proofs/subtype/Bound: more changes nothing).
 unfoldable pub related_at : ℕ → Way → List ℕ → ℕ → List ℕ → ℕ → Option ℕ
-related_at zero w x i y j = none
+related_at zero w x i y j = None
 related_at (suc d) w x i y j = type_at (λ v p q. related_at d v x p y q) w x i y j
 
--- what the code tells of it
-abbrev pub cmp_of : Option ℕ → Cmp
-cmp_of none = Differ
-cmp_of (some p) = Next p
-
 -- the same of types: where the test passes, the place after the first (proofs/subtype/Says)
-abbrev pub cmp : ℕ → Bool → Cmp
-cmp p true = Next p
-cmp p false = Differ
+abbrev pub cmp : ℕ → Bool → Option ℕ
+cmp p true = Some p
+cmp p false = None
 
 -- the contract: on all bytes and places
-pub record Related (x : List ℕ) (i : ℕ) (y : List ℕ) (j : ℕ) (w : Way) (r : Cmp) : Type 0 where
-  pub said : r ≡ cmp_of (related_at (length x) w x i y j)
+pub record Related (x : List ℕ) (i : ℕ) (y : List ℕ) (j : ℕ) (w : Way) (r : Option ℕ) : Type 0 where
+  pub said : r ≡ related_at (length x) w x i y j
 
 -- ---- examples
 
-abbrev answer : Way → List ℕ → List ℕ → Cmp
-answer w x y = cmp_of (related_at (length x) w x 0 y 0)
+abbrev answer : Way → List ℕ → List ℕ → Option ℕ
+answer w x y = related_at (length x) w x 0 y 0
 
 -- Unit to Int: without a lock, and under lock 0
 abbrev free : List ℕ
@@ -81,33 +80,33 @@ free = 0x24 ∷ 0x20 ∷ 0 ∷ 0 ∷ 0 ∷ 0 ∷ 0x21 ∷ []
 abbrev guarded : List ℕ
 guarded = 0x24 ∷ 0x20 ∷ 0 ∷ 0 ∷ 0 ∷ 1 ∷ 0x21 ∷ []
 
-set_within : answer below free guarded ≡ Next 7
+set_within : answer below free guarded ≡ Some 7
 unfolding related_at type_at result_at same_byte sets_at sets_related within less bits
 set_within = refl
 
-set_not_within : answer below guarded free ≡ Differ
+set_not_within : answer below guarded free ≡ None
 unfolding related_at type_at result_at same_byte sets_at sets_related within less bits
 set_not_within = refl
 
 -- as arguments they go the other way
-argument_turned : answer below (0x24 ∷ guarded ++ 0 ∷ 0 ∷ 0 ∷ 0 ∷ 0x20 ∷ []) (0x24 ∷ free ++ 0 ∷ 0 ∷ 0 ∷ 0 ∷ 0x20 ∷ []) ≡ Next 13
+argument_turned : answer below (0x24 ∷ guarded ++ 0 ∷ 0 ∷ 0 ∷ 0 ∷ 0x20 ∷ []) (0x24 ∷ free ++ 0 ∷ 0 ∷ 0 ∷ 0 ∷ 0x20 ∷ []) ≡ Some 13
 unfolding related_at type_at result_at same_byte sets_at sets_related within less bits
 argument_turned = refl
 
 -- "Refs must be equal"
-refs_differ : answer below (0x23 ∷ 5 ∷ free) (0x23 ∷ 5 ∷ guarded) ≡ Differ
+refs_differ : answer below (0x23 ∷ 5 ∷ free) (0x23 ∷ 5 ∷ guarded) ≡ None
 unfolding related_at type_at result_at same_byte sets_at sets_related
 refs_differ = refl
 
-refs_equal : answer below (0x23 ∷ 5 ∷ free) (0x23 ∷ 5 ∷ free) ≡ Next 9
+refs_equal : answer below (0x23 ∷ 5 ∷ free) (0x23 ∷ 5 ∷ free) ≡ Some 9
 unfolding related_at type_at result_at same_byte sets_at sets_related
 refs_equal = refl
 
 -- a name that the first buffer cuts, and a byte that is no type's code
-name_cut : answer same (0x22 ∷ []) (0x22 ∷ 5 ∷ []) ≡ Differ
+name_cut : answer same (0x22 ∷ []) (0x22 ∷ 5 ∷ []) ≡ None
 unfolding related_at type_at same_byte
 name_cut = refl
 
-no_code : answer same (0 ∷ []) (0 ∷ []) ≡ Next 1
+no_code : answer same (0 ∷ []) (0 ∷ []) ≡ Some 1
 unfolding related_at type_at same_byte
 no_code = refl

@@ -1,21 +1,17 @@
 // The subtype test on the bytes of two types, which it does not ask to be types: what another crate calls must have an answer on all input.
 ghost use Rattle.std.specs.Prelude.{◌≡◌};
 ghost use Rattle.paper.specs.Types.{turned, sets_related};
-ghost use Rattle.types.specs.Subtype.{way, same_byte, sets_at, Related};
+ghost use Rattle.types.specs.Subtype.{way, same_byte, sets_at, Found, Related};
+
+use crate::stated::{has_four, number_at};
+use codes::TypeCode;
 
 // How two types are held against each other: the same, the first below the second, or above it.
-#[derive(Clone, Copy)]
+#[derive(Clone, Copy, Debug, PartialEq, Eq)]
 pub enum Mode {
     Same,
     Below,
     Above,
-}
-
-// So related, with the place after the first type; or not.
-#[derive(Clone, Copy)]
-pub enum Cmp {
-    Next(usize),
-    Differ,
 }
 
 // An argument goes the other way.
@@ -40,112 +36,64 @@ fn inside(md: Mode, m: u32, n: u32) -> bool
     }
 }
 
-// Two names, each within its buffer.
-fn same_name(x: &[u8], i: usize, y: &[u8], j: usize) -> bool
+// Two bytes, codes or names, each within its buffer.
+#[tactic(auto, unfolding(crate::specs::Subtype::same_byte))]
+fn same(x: &[u8], i: usize, y: &[u8], j: usize) -> bool
     ensures { result ≡ same_byte x.now i y.now j }
 {
-    if x.len() <= i {
-        return false;
-    }
-    if y.len() <= j {
-        return false;
-    }
-    x[i] == y[j]
+    i < x.len() && j < y.len() && x[i] == y[j]
 }
 
 // Two lock sets, each within its buffer.
+#[tactic(auto, unfolding(crate::specs::Subtype::sets_at))]
 fn sets(x: &[u8], i: usize, y: &[u8], j: usize, md: Mode) -> bool
     ensures { result ≡ sets_at (way md) x.now i y.now j }
 {
-    if x.len() < 4 {
-        return false;
-    }
-    if y.len() < 4 {
-        return false;
-    }
-    if x.len() - 4 < i {
-        return false;
-    }
-    if y.len() - 4 < j {
-        return false;
-    }
-    inside(md, crate::stated::number(x, i), crate::stated::number(y, j))
+    has_four(x, i) && has_four(y, j) && inside(md, number_at(x, i), number_at(y, j))
 }
 
-// Whether the type at i of x is so related to the one at j of y, with all its parts. The answer of the last part is made anew: handed on as it is,
-// it would be copied through memory, which costs more than the test.
-fn parts_related(x: &[u8], i: usize, y: &[u8], j: usize, md: Mode) -> Cmp
+// The same, once the codes are found to be one: each part of the type in turn.
+#[cycle(parts)]
+fn parts_related(code: TypeCode, x: &[u8], i: usize, y: &[u8], j: usize, md: Mode) -> Option<usize>
+    requires { Found code x.now i y.now j }
     ensures { Related x.now i y.now j (way md) result }
 {
-    if x.len() <= i {
-        return Cmp::Differ;
-    }
-    if y.len() <= j {
-        return Cmp::Differ;
-    }
-    let code = x[i];
-    let other = y[j];
-    if code != other {
-        return Cmp::Differ;
-    }
     match code {
-        34 => {
-            if same_name(x, i + 1, y, j + 1) {
-                let end = i + 2;
-                Cmp::Next(end)
+        TypeCode::Unit | TypeCode::Int => Some(i + 1),
+        TypeCode::Lock => same(x, i + 1, y, j + 1).then_some(i + 2),
+        TypeCode::Ref => {
+            if same(x, i + 1, y, j + 1) {
+                related(x, i + 2, y, j + 2, Mode::Same)
             } else {
-                Cmp::Differ
+                None
             }
         }
-        35 => {
-            if same_name(x, i + 1, y, j + 1) {
-                match parts_related(x, i + 2, y, j + 2, Mode::Same) {
-                    Cmp::Differ => Cmp::Differ,
-                    Cmp::Next(end) => Cmp::Next(end),
-                }
+        TypeCode::Function => {
+            let p = related(x, i + 1, y, j + 1, flip(md))?;
+            let q = j + (p - i);
+            if sets(x, p, y, q, md) {
+                related(x, p + 4, y, q + 4, md)
             } else {
-                Cmp::Differ
+                None
             }
-        }
-        36 => match parts_related(x, i + 1, y, j + 1, flip(md)) {
-            Cmp::Differ => Cmp::Differ,
-            Cmp::Next(p) => {
-                let q = j + (p - i);
-                if sets(x, p, y, q, md) {
-                    match parts_related(x, p + 4, y, q + 4, md) {
-                        Cmp::Differ => Cmp::Differ,
-                        Cmp::Next(end) => Cmp::Next(end),
-                    }
-                } else {
-                    Cmp::Differ
-                }
-            }
-        },
-        _ => {
-            let end = i + 1;
-            Cmp::Next(end)
         }
     }
 }
 
-// The same: two codes that differ, and Unit and Int, which are most, need no walk.
-pub fn related(x: &[u8], i: usize, y: &[u8], j: usize, md: Mode) -> Cmp
+// Whether the type at i of x is so related to the one at j of y, with all its parts: then the place after the first. Two codes that differ, and
+// Unit and Int, which are most, need no walk; a byte that is no code is a type of its own.
+#[cycle(parts)]
+pub fn related(x: &[u8], i: usize, y: &[u8], j: usize, md: Mode) -> Option<usize>
     ensures { Related x.now i y.now j (way md) result }
 {
-    if x.len() <= i {
-        return Cmp::Differ;
+    if !same(x, i, y, j) {
+        return None;
     }
-    if y.len() <= j {
-        return Cmp::Differ;
+    let Ok(code) = TypeCode::try_from(x[i]) else {
+        return Some(i + 1);
+    };
+    if let TypeCode::Unit | TypeCode::Int = code {
+        return Some(i + 1);
     }
-    let code = x[i];
-    let other = y[j];
-    if code != other {
-        return Cmp::Differ;
-    }
-    if code < 34 {
-        let end = i + 1;
-        return Cmp::Next(end);
-    }
-    parts_related(x, i, y, j, md)
+    parts_related(code, x, i, y, j, md)
 }

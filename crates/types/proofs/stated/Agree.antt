@@ -12,8 +12,10 @@ use Rattle.paper.specs.Base.{choose, at, word32}
 use Rattle.paper.specs.Types.{Ty, lock, ref, fun}
 use Rattle.paper.specs.Reading.{Read, got, wrong, Reader, ◌>>=◌, return, wrong_at, field, byte, word, code_due, lock_name, lock_set, read_type, read_stated, type_code}
 use Rattle.types.specs.Stated.{◌then◌, pick, name_at, set_at, Tag, ended, tag_of, tag_at, too_deep, ty_as, ty_at, sized, stated_at}
-use Rattle.types.specs.declared.stated.Got.{Got}
 use Rattle.types.specs.Told.{told}
+use Rattle.std.specs.Prelude.{Result}
+use Rattle.answers.specs.declared.Refusal.{Refusal}
+use Rattle.answers.specs.Said.{said}
 use Rattle.types.specs.Contract.{NameRead, SetRead, TypeRead, StatedRead}
 use Rattle.types.proofs.stated.Laws.{tag_low, tag_high}
 
@@ -228,27 +230,27 @@ module _ (n : ℕ) (s : List ℕ) where
   stated_is i = ap (sized i) (type_is 16 i) ∙ sized_is i (read_type 1 16 s n i)
 
 -- ---- the contracts of the readers, in terms of the readers by tags
-module _ (n : ℕ) (s : List ℕ) (i : ℕ) {r : Got} where
-  pub name_told : r ≡ told (name_at n s i) → NameRead s i n r
+module _ (n : ℕ) (s : List ℕ) (i : ℕ) {r : Result ℕ Refusal} where
+  pub name_told : said r ≡ told (name_at n s i) → NameRead s i n r
   name_told e = record { said = e ∙ ap told (name_is n s i) }
 
-  pub name_back : NameRead s i n r → r ≡ told (name_at n s i)
+  pub name_back : NameRead s i n r → said r ≡ told (name_at n s i)
   name_back e = e.said ∙ sym (ap told (name_is n s i))
 
-  pub set_told : r ≡ told (set_at n s i) → SetRead s i n r
+  pub set_told : said r ≡ told (set_at n s i) → SetRead s i n r
   set_told e = record { said = e ∙ ap told (set_is n s i) }
 
-  pub set_back : SetRead s i n r → r ≡ told (set_at n s i)
+  pub set_back : SetRead s i n r → said r ≡ told (set_at n s i)
   set_back e = e.said ∙ sym (ap told (set_is n s i))
 
-  pub stated_told : r ≡ told (stated_at n s i) → StatedRead s i n r
+  pub stated_told : said r ≡ told (stated_at n s i) → StatedRead s i n r
   stated_told e = record { said = e ∙ ap told (stated_is n s i) }
 
-  pub stated_back : StatedRead s i n r → r ≡ told (stated_at n s i)
+  pub stated_back : StatedRead s i n r → said r ≡ told (stated_at n s i)
   stated_back e = e.said ∙ sym (ap told (stated_is n s i))
 
-  pub type_told : (d : ℕ) → r ≡ told (ty_at d n s i) → TypeRead s i n d r
+  pub type_told : (d : ℕ) → said r ≡ told (ty_at d n s i) → TypeRead s i n d r
   type_told d e = record { said = e ∙ ap told (type_is n s d i) }
 
-  pub type_back : (d : ℕ) → TypeRead s i n d r → r ≡ told (ty_at d n s i)
+  pub type_back : (d : ℕ) → TypeRead s i n d r → said r ≡ told (ty_at d n s i)
   type_back d e = e.said ∙ sym (ap told (type_is n s d i))

@@ -8,11 +8,10 @@ use lib.Pow.{pow_mono, pow-lt}
 use native.Mathlib.Nat.{mod-eq_of_lt, one-mul, lt_of_lt_of_le}
 use native.Mathlib.Numerals.{sub-one}
 use native.Mathlib.Decide.{ℕ_discrete}
-use lib.Dec.{ltb, eqb, lit≤}
+use lib.Dec.{leb, ltb, eqb, lit≤}
 use lib.ListN.{length, get_or}
 use borrow.Author.Tests.{le-ltb, lt-ltb, le-leb, lt-leb, ne_eqb}
-use Rattle.types.specs.declared.stated.Got.{Got}
-use Rattle.types.specs.declared.stated.Got.TheVariants.{Next, Refused}
+use Rattle.paper.specs.Verdict.{Out, ok, refused}
 use Rattle.paper.specs.Base.{word32}
 use Rattle.paper.specs.Types.{Ty, lock, ref, fun}
 use Rattle.paper.specs.Reading.{Read, got, wrong}
@@ -20,31 +19,33 @@ use Rattle.types.specs.Stated.{◌then◌, set_at, name_at, ty_at, stated_at, si
 use Rattle.types.specs.Told.{told, on}
 
 module _ (n : ℕ) (s : List ℕ) (at : ℕ) where
-  pub name_ended : length s ≤ at → Refused 5 (length s) ≡ told (name_at n s at)
+  pub name_ended : length s ≤ at → refused 5 (length s) ≡ told (name_at n s at)
   unfolding told name_at
   name_ended h = simp (le-ltb _ _ h)
 
-  pub name_in : at < length s → get_or s at 0 < n → Next (at + 1) ≡ told (name_at n s at)
+  pub name_in : at < length s → get_or s at 0 < n → ok (at + 1) ≡ told (name_at n s at)
   unfolding told name_at
   name_in h k = simp (lt-ltb _ _ h, lt-ltb _ _ k)
 
-  pub name_out : at < length s → n ≤ get_or s at 0 → Refused 9 at ≡ told (name_at n s at)
+  pub name_out : at < length s → n ≤ get_or s at 0 → refused 9 at ≡ told (name_at n s at)
   unfolding told name_at
   name_out h k = simp (lt-ltb _ _ h, le-ltb _ _ k)
 
-  pub set_short : length s < at + 4 → Refused 5 (length s) ≡ told (set_at n s at)
-  unfolding told set_at
-  set_short h = simp (lt-leb _ _ h)
-
-  -- m is the set that stands there, and b says whether its names are in scope
-  module _ (h : at + 4 ≤ length s) {m : ℕ} {b : Bool} (e : m ≡ word32 s at) (f : b ≡ ltb m (2 ^ n)) where
-    pub set_in : b ≡ true → Next (at + 4) ≡ told (set_at n s at)
+  -- x says whether four bytes stand there
+  module _ {x : Bool} (h : x ≡ leb (at + 4) (length s)) where
+    pub set_short : x ≡ false → refused 5 (length s) ≡ told (set_at n s at)
     unfolding told set_at
-    set_in g = simp (le-leb _ _ h, ← e, ← f, g)
+    set_short k = simp (← h, k)
 
-    pub set_out : b ≡ false → Refused 9 at ≡ told (set_at n s at)
-    unfolding told set_at
-    set_out g = simp (le-leb _ _ h, ← e, ← f, g)
+    -- m is the set, and b says whether its names are in scope
+    module _ (k : x ≡ true) {m : ℕ} {b : Bool} (e : m ≡ word32 s at) (f : b ≡ ltb m (2 ^ n)) where
+      pub set_in : b ≡ true → ok (at + 4) ≡ told (set_at n s at)
+      unfolding told set_at
+      set_in g = simp (← h, k, ← e, ← f, g)
+
+      pub set_out : b ≡ false → refused 9 at ≡ told (set_at n s at)
+      unfolding told set_at
+      set_out g = simp (← h, k, ← e, ← f, g)
 
 -- ---- whether a set's names are in scope
 
@@ -55,13 +56,13 @@ pub all_names : (m n : ℕ) → m < 2 ^ 32 → 32 ≤ n → true ≡ ltb m (2 ^ 
 all_names m n h k = sym (lt-ltb m (2 ^ n) (lt_of_lt_of_le h (pow_mono k)))
 
 -- an answer r that is also x: what follows it
-pub on_refused : {r x : Got} (g : ℕ → Got) {k p : ℕ} → r ≡ x → r ≡ Refused k p → Refused k p ≡ on x g
+pub on_refused : {r x : Out ℕ} (g : ℕ → Out ℕ) {k p : ℕ} → r ≡ x → r ≡ refused k p → refused k p ≡ on x g
 on_refused g e f = rw (← e, f)
 
-pub on_next : {r x y : Got} (g : ℕ → Got) {p : ℕ} → r ≡ x → r ≡ Next p → y ≡ g p → y ≡ on x g
+pub on_next : {r x y : Out ℕ} (g : ℕ → Out ℕ) {p : ℕ} → r ≡ x → r ≡ ok p → y ≡ g p → y ≡ on x g
 on_next g e f h = rw (← e, f) h
 
-pub told_then : {A B : Type 0} (r : Read A) (f : A → ℕ → Read B) (g : ℕ → Got) → ((a : A) (p : ℕ) → told (f a p) ≡ g p)
+pub told_then : {A B : Type 0} (r : Read A) (f : A → ℕ → Read B) (g : ℕ → Out ℕ) → ((a : A) (p : ℕ) → told (f a p) ≡ g p)
     → told (r then f) ≡ on (told r) g
 unfolding told ◌then◌
 told_then (got a p) f g h = h a p
@@ -100,7 +101,7 @@ deep s at b l u = go (ℕ_discrete b 32) (ℕ_discrete b 33) (ℕ_discrete b 34)
     go (no a) (no a2) (no a3) (no a4) = let e : b ≡ 36 = omega arith in rw e
 
 module _ (n : ℕ) (s : List ℕ) (at : ℕ) where
-  pub ty_ended : (d : ℕ) → length s ≤ at → Refused 5 (length s) ≡ told (ty_at d n s at)
+  pub ty_ended : (d : ℕ) → length s ≤ at → refused 5 (length s) ≡ told (ty_at d n s at)
   unfolding told ty_at tag_at too_deep ty_as
   ty_ended zero h = simp (le-ltb _ _ h)
   ty_ended (suc d) h = simp (le-ltb _ _ h)
@@ -110,27 +111,27 @@ module _ (n : ℕ) (s : List ℕ) (at : ℕ) where
     unfolding tag_at
     tag_in b e = simp (lt-ltb _ _ h, e)
 
-    other_told : (d : ℕ) → tag_at s at ≡ other → Refused 4 at ≡ told (ty_at d n s at)
+    other_told : (d : ℕ) → tag_at s at ≡ other → refused 4 at ≡ told (ty_at d n s at)
     unfolding told ty_at too_deep ty_as
     other_told zero e = simp e
     other_told (suc d) e = simp e
 
-    pub ty_low : (d : ℕ) → get_or s at 0 < 32 → Refused 4 at ≡ told (ty_at d n s at)
+    pub ty_low : (d : ℕ) → get_or s at 0 < 32 → refused 4 at ≡ told (ty_at d n s at)
     ty_low d k = other_told d (tag_in _ refl ∙ tag_low (get_or s at 0) k)
 
-    pub ty_high : (d : ℕ) → 36 < get_or s at 0 → Refused 4 at ≡ told (ty_at d n s at)
+    pub ty_high : (d : ℕ) → 36 < get_or s at 0 → refused 4 at ≡ told (ty_at d n s at)
     ty_high d k = other_told d (tag_in _ refl ∙ tag_high (get_or s at 0) k)
 
-    pub ty_deep : (d : ℕ) → d ≡ 0 → 32 ≤ get_or s at 0 → get_or s at 0 ≤ 36 → Refused 7 at ≡ told (ty_at d n s at)
+    pub ty_deep : (d : ℕ) → d ≡ 0 → 32 ≤ get_or s at 0 → get_or s at 0 ≤ 36 → refused 7 at ≡ told (ty_at d n s at)
     unfolding told ty_at
     ty_deep d e l u = rw e (ap told (deep s at (get_or s at 0) l u ∙ ap (λ (g : Tag). too_deep g s at) (sym (tag_in _ refl))))
 
-    pub ty_unit : (d : ℕ) → (d ≡ 0 → ⊥) → get_or s at 0 ≡ 32 → Next (at + 1) ≡ told (ty_at d n s at)
+    pub ty_unit : (d : ℕ) → (d ≡ 0 → ⊥) → get_or s at 0 ≡ 32 → ok (at + 1) ≡ told (ty_at d n s at)
     unfolding told ty_at ty_as tag_of
     ty_unit zero z e = absurd (z refl)
     ty_unit (suc d) z e = simp (tag_in 32 e)
 
-    pub ty_int : (d : ℕ) → (d ≡ 0 → ⊥) → get_or s at 0 ≡ 33 → Next (at + 1) ≡ told (ty_at d n s at)
+    pub ty_int : (d : ℕ) → (d ≡ 0 → ⊥) → get_or s at 0 ≡ 33 → ok (at + 1) ≡ told (ty_at d n s at)
     unfolding told ty_at ty_as tag_of
     ty_int zero z e = absurd (z refl)
     ty_int (suc d) z e = simp (tag_in 33 e)
@@ -142,10 +143,10 @@ module _ (n : ℕ) (s : List ℕ) (at : ℕ) where
 
     module _ (d : ℕ) (z : d ≡ 0 → ⊥) where
       -- what is told of a part at p, and of a function type's set and result there
-      abbrev Part : ℕ → Got
+      abbrev Part : ℕ → Out ℕ
       Part p = told (ty_at (d - 1) n s p)
 
-      abbrev Rest : ℕ → Got
+      abbrev Rest : ℕ → Out ℕ
       Rest p = on (told (set_at n s p)) Part
 
       ty_ref : get_or s at 0 ≡ 35 → on (told (name_at n s (at + 1))) Part ≡ told (ty_at d n s at)
@@ -165,57 +166,57 @@ module _ (n : ℕ) (s : List ℕ) (at : ℕ) where
               unfold ty_at ty_as tag_of in
               simp (sub-one (suc d), tag_in 36 e) (sym (told_then _ _ _ (λ a p. told_then _ _ _ (λ m q. told_as (ty_at d n s q) (fun a m)))))
 
-      module _ {r : Got} (e : get_or s at 0 ≡ 35) (f : r ≡ told (name_at n s (at + 1))) where
-        pub ref_refused : {k p : ℕ} → r ≡ Refused k p → Refused k p ≡ told (ty_at d n s at)
+      module _ {r : Out ℕ} (e : get_or s at 0 ≡ 35) (f : r ≡ told (name_at n s (at + 1))) where
+        pub ref_refused : {k p : ℕ} → r ≡ refused k p → refused k p ≡ told (ty_at d n s at)
         ref_refused g = on_refused Part f g ∙ ty_ref e
 
-        pub ref_next : {y : Got} {p : ℕ} → r ≡ Next p → y ≡ Part p → y ≡ told (ty_at d n s at)
+        pub ref_next : {y : Out ℕ} {p : ℕ} → r ≡ ok p → y ≡ Part p → y ≡ told (ty_at d n s at)
         ref_next g h = on_next Part f g h ∙ ty_ref e
 
-      module _ {r : Got} (e : get_or s at 0 ≡ 36) (f : r ≡ Part (at + 1)) where
-        pub fun_refused : {k p : ℕ} → r ≡ Refused k p → Refused k p ≡ told (ty_at d n s at)
+      module _ {r : Out ℕ} (e : get_or s at 0 ≡ 36) (f : r ≡ Part (at + 1)) where
+        pub fun_refused : {k p : ℕ} → r ≡ refused k p → refused k p ≡ told (ty_at d n s at)
         fun_refused g = on_refused Rest f g ∙ ty_fun e
 
-        module _ {r₂ : Got} {p : ℕ} (g : r ≡ Next p) (f₂ : r₂ ≡ told (set_at n s p)) where
-          pub fun_set_refused : {k q : ℕ} → r₂ ≡ Refused k q → Refused k q ≡ told (ty_at d n s at)
+        module _ {r₂ : Out ℕ} {p : ℕ} (g : r ≡ ok p) (f₂ : r₂ ≡ told (set_at n s p)) where
+          pub fun_set_refused : {k q : ℕ} → r₂ ≡ refused k q → refused k q ≡ told (ty_at d n s at)
           fun_set_refused i = on_next Rest f g (on_refused Part f₂ i) ∙ ty_fun e
 
-          pub fun_next : {y : Got} {q : ℕ} → r₂ ≡ Next q → y ≡ Part q → y ≡ told (ty_at d n s at)
+          pub fun_next : {y : Out ℕ} {q : ℕ} → r₂ ≡ ok q → y ≡ Part q → y ≡ told (ty_at d n s at)
           fun_next i j = on_next Rest f g (on_next Part f₂ i j) ∙ ty_fun e
 
 module _ (n : ℕ) (s : List ℕ) (at : ℕ) where
-  pub stated_ended : length s ≤ at → Refused 5 (length s) ≡ told (stated_at n s at)
+  pub stated_ended : length s ≤ at → refused 5 (length s) ≡ told (stated_at n s at)
   unfolding stated_at
   stated_ended h = go (ty_at 16 n s at) (ty_ended n s at 16 h)
     where
-      go : (r : Read Ty) → Refused 5 (length s) ≡ told r → Refused 5 (length s) ≡ told (sized at r)
+      go : (r : Read Ty) → refused 5 (length s) ≡ told r → refused 5 (length s) ≡ told (sized at r)
       go (got t p) e = absurd (let z : ◌≡◌ {A = ℕ} 0 1 = unfold told in cc in omega arith)
       go (wrong k p) e = unfold told sized in e
 
-sized_refused : (at : ℕ) (x : Read Ty) {r : Got} {k p : ℕ} → r ≡ told x → r ≡ Refused k p → Refused k p ≡ told (sized at x)
+sized_refused : (at : ℕ) (x : Read Ty) {r : Out ℕ} {k p : ℕ} → r ≡ told x → r ≡ refused k p → refused k p ≡ told (sized at x)
 unfolding told sized
 sized_refused at (got t q) e f = let z : ◌≡◌ {A = ℕ} 0 1 = cc in absurd (omega arith)
 sized_refused at (wrong j q) e f = sym f ∙ e
 
-sized_in : (at : ℕ) (x : Read Ty) {r : Got} {p : ℕ} → r ≡ told x → r ≡ Next p → p ≤ at + 256 → Next p ≡ told (sized at x)
+sized_in : (at : ℕ) (x : Read Ty) {r : Out ℕ} {p : ℕ} → r ≡ told x → r ≡ ok p → p ≤ at + 256 → ok p ≡ told (sized at x)
 unfolding told sized
 sized_in at (got t q) {p = p} e f h = let z : p ≡ q = cc in simp (le-leb q (at + 256) (omega arith)) (sym f ∙ e)
 sized_in at (wrong j q) e f h = let z : ◌≡◌ {A = ℕ} 0 1 = cc in absurd (omega arith)
 
-sized_out : (at : ℕ) (x : Read Ty) {r : Got} {p : ℕ} → r ≡ told x → r ≡ Next p → at + 256 < p → Refused 7 at ≡ told (sized at x)
+sized_out : (at : ℕ) (x : Read Ty) {r : Out ℕ} {p : ℕ} → r ≡ told x → r ≡ ok p → at + 256 < p → refused 7 at ≡ told (sized at x)
 unfolding told sized
 sized_out at (got t q) {p = p} e f h = let z : p ≡ q = cc in simp (lt-leb q (at + 256) (omega arith))
 sized_out at (wrong j q) e f h = let z : ◌≡◌ {A = ℕ} 0 1 = cc in absurd (omega arith)
 
-module _ (n : ℕ) (s : List ℕ) (at : ℕ) {r : Got} (e : r ≡ told (ty_at 16 n s at)) where
-  pub stated_refused : {k p : ℕ} → r ≡ Refused k p → Refused k p ≡ told (stated_at n s at)
+module _ (n : ℕ) (s : List ℕ) (at : ℕ) {r : Out ℕ} (e : r ≡ told (ty_at 16 n s at)) where
+  pub stated_refused : {k p : ℕ} → r ≡ refused k p → refused k p ≡ told (stated_at n s at)
   unfolding stated_at
   stated_refused f = sized_refused at (ty_at 16 n s at) e f
 
-  pub stated_in : {p : ℕ} → r ≡ Next p → p ≤ at + 256 → Next p ≡ told (stated_at n s at)
+  pub stated_in : {p : ℕ} → r ≡ ok p → p ≤ at + 256 → ok p ≡ told (stated_at n s at)
   unfolding stated_at
   stated_in f h = sized_in at (ty_at 16 n s at) e f h
 
-  pub stated_out : {p : ℕ} → r ≡ Next p → at + 256 < p → Refused 7 at ≡ told (stated_at n s at)
+  pub stated_out : {p : ℕ} → r ≡ ok p → at + 256 < p → refused 7 at ≡ told (stated_at n s at)
   unfolding stated_at
   stated_out f h = sized_out at (ty_at 16 n s at) e f h

@@ -2,13 +2,13 @@
 use mathlib.Core.Path.{◌≡◌, refl, ap, sym, ◌∙◌}
 use mathlib.Core.Bool.{Bool, true, false}
 use mathlib.Core.List.{List}
-use mathlib.Core.Option.{Option, none, some}
+use Rattle.std.specs.Prelude.{Option, None, Some}
 use Prim.Native.Nat.{ℕ, zero, suc, ◌+◌, ◌-◌, ◌≤◌, ◌<◌}
 use native.Mathlib.Omega.{arith}
 use lib.Dec.{ltb, leb, eqb}
 use lib.ListN.{length, get_or}
 use borrow.Author.Tests.{ltb-true, leb-true, eqb-true, le-ltb}
-use Rattle.laws.specs.Tests.{split, none_some}
+use Rattle.laws.specs.Tests.{split}
 use Rattle.paper.specs.Base.{choose, word32}
 use Rattle.paper.specs.Types.{Way, same, turned, sets_related}
 use Rattle.types.specs.Subtype.{Part, same_byte, sets_at, after, result_at, type_at, related_at}
@@ -26,7 +26,7 @@ choices false k k' l l' f g = g refl
 -- ---- tests that passed
 
 module _ (x : List ℕ) (i : ℕ) (y : List ℕ) (j : ℕ) where
-  same_byte_lem : same_byte x i y j ≡ true → (i < length x) × (j < length y) × (get_or x i 0 ≡ get_or y j 0)
+  pub same_byte_lem : same_byte x i y j ≡ true → (i < length x) × (j < length y) × (get_or x i 0 ≡ get_or y j 0)
   unfolding same_byte
   same_byte_lem e =
       let a = split (ltb i (length x)) _ e in
@@ -45,12 +45,12 @@ module _ (x : List ℕ) (i : ℕ) (y : List ℕ) (j : ℕ) where
 module _ (x y : List ℕ) where
   -- types so related end within their buffers, and each after its start
   abbrev pub Room : ℕ → ℕ → Option ℕ → Type 0
-  Room i j o = (p : ℕ) → o ≡ some p → (i < p) × (p ≤ length x) × (j + (p - i) ≤ length y)
+  Room i j o = (p : ℕ) → o ≡ Some p → (i < p) × (p ≤ length x) × (j + (p - i) ≤ length y)
 
-  no_room : (i j : ℕ) → Room i j none
-  no_room i j p e = none_some e
+  no_room : (i j : ℕ) → Room i j None
+  no_room i j p e = let z : ◌≡◌ {A = ℕ} 0 1 = cc in absurd (omega arith)
 
-  some_room : (i j p : ℕ) → (i < p) × (p ≤ length x) × (j + (p - i) ≤ length y) → Room i j (some p)
+  some_room : (i j p : ℕ) → (i < p) × (p ≤ length x) × (j + (p - i) ≤ length y) → Room i j (Some p)
   some_room i j p h q e = let z : p ≡ q = cc in rw (← z) h
 
   more_room : (i i' j j' : ℕ) (o : Option ℕ) → i ≤ i' → j + (i' - i) ≡ j' → Room i' j' o → Room i j o
@@ -59,8 +59,8 @@ module _ (x y : List ℕ) where
   module _ (part : Part) (R : (v : Way) (i j : ℕ) → Room i j (part v i j)) (w : Way) (i j : ℕ) where
     result_room : (o : Option ℕ) → Room (i + 1) (j + 1) o → Room i j (after o (result_at part w x i y j))
     unfolding result_at
-    result_room none r = no_room i j
-    result_room (some p) r =
+    result_room None r = no_room i j
+    result_room (Some p) r =
         let z = r p refl in
         by_choice (Room i j) (sets_at w x p y (j + (p - i))) _ _
         (λ s. more_room i (p + 4) j (j + (p - i) + 4) _ (omega arith) (omega arith) (R w (p + 4) (j + (p - i) + 4)))
@@ -85,8 +85,8 @@ module _ (x y : List ℕ) where
     module _ (part' : Part) (same_parts : (v : Way) (p q : ℕ) → i < p → part v p q ≡ part' v p q) where
       same_result : (o : Option ℕ) → Room (i + 1) (j + 1) o → after o (result_at part w x i y j) ≡ after o (result_at part' w x i y j)
       unfolding result_at
-      same_result none r = refl
-      same_result (some p) r = let z = r p refl in choices (sets_at w x p y (j + (p - i))) _ _ _ _ (λ _. same_parts w (p + 4) (j + (p - i) + 4) (omega arith)) (λ _. refl)
+      same_result None r = refl
+      same_result (Some p) r = let z = r p refl in choices (sets_at w x p y (j + (p - i))) _ _ _ _ (λ _. same_parts w (p + 4) (j + (p - i) + 4) (omega arith)) (λ _. refl)
 
       same_type : type_at part w x i y j ≡ type_at part' w x i y j
       unfolding type_at
@@ -106,7 +106,7 @@ module _ (x y : List ℕ) where
   room zero w i j = no_room i j
   room (suc d) w i j = type_room (λ v p q. related_at d v x p y q) (room d) w i j
 
-  ended : (part : Part) (w : Way) (i j : ℕ) → length x ≤ i → none ≡ type_at part w x i y j
+  ended : (part : Part) (w : Way) (i j : ℕ) → length x ≤ i → None ≡ type_at part w x i y j
   unfolding type_at same_byte
   ended part w i j h = rw (le-ltb i (length x) h)
 

@@ -2,7 +2,7 @@
 use mathlib.Core.Path.{◌≡◌, refl, ap, sym, ◌∙◌}
 use mathlib.Core.List.{List}
 use mathlib.Core.Bool.{Bool, true, false, ◌&&◌}
-use mathlib.Core.Option.{none, some}
+use Rattle.std.specs.Prelude.{Option, None, Some}
 use Prim.Native.Nat.{ℕ, ◌+◌, ◌-◌, ◌<◌}
 use native.Mathlib.Omega.{arith}
 use lib.Dec.{eqb, lit≤}
@@ -11,19 +11,17 @@ use borrow.Author.Tests.{eq-eqb}
 use Rattle.paper.specs.Base.{choose}
 use Rattle.paper.specs.Types.{Ty, unit, int, lock, ref, fun, ty_size, Way, below, same, turned, sets_related, related, subtype}
 use Rattle.laws.specs.Tests.{no_true, split}
-use Rattle.types.specs.declared.subtype.Cmp.{Cmp}
-use Rattle.types.specs.declared.subtype.Cmp.TheVariants.{Next, Differ}
 use Rattle.types.specs.Holds.{Holds, Byte}
-use Rattle.types.specs.Subtype.{same_byte, sets_at, must, after, related_at, cmp_of, cmp, Related}
-use Rattle.types.proofs.subtype.Laws.{no_next, byte_there, sets_there, is_none, is_leaf, is_lock, is_ref, is_fun}
+use Rattle.types.specs.Subtype.{same_byte, sets_at, must, after, related_at, cmp, Related}
+use Rattle.types.proofs.subtype.Laws.{no_some, byte_there, sets_there, is_none, is_leaf, is_lock, is_ref, is_fun}
 
 -- two types that two buffers hold: what the bytes give, and that related types are of one length
 record Said (x : List ℕ) (i : ℕ) (y : List ℕ) (j : ℕ) (w : Way) (t u : Ty) : Type 0 where
-  gives : related_at (length x) w x i y j ≡ choose (related w t u) (λ _. some (i + ty_size t)) (λ _. none)
+  gives : related_at (length x) w x i y j ≡ choose (related w t u) (λ _. Some (i + ty_size t)) (λ _. None)
   sized : related w t u ≡ true → ty_size t ≡ ty_size u
 
 -- a test that must pass before another
-must_and : (a b : Bool) (p : ℕ) → (must a λ _. choose b (λ _. some p) (λ _. none)) ≡ choose (a && b) (λ _. some p) (λ _. none)
+must_and : (a b : Bool) (p : ℕ) → (must a λ _. choose b (λ _. Some p) (λ _. None)) ≡ choose (a && b) (λ _. Some p) (λ _. None)
 must_and true b p = refl
 must_and false b p = refl
 
@@ -65,7 +63,7 @@ module _ (x y : List ℕ) where
               omega arith;
         }
       where
-        go : (r : Bool) → related (turned w) a c ≡ r → after (choose r (λ _. some (i + 1 + ty_size a)) (λ _. none)) (λ p. must (sets_at w x p y (j + (p - i))) λ _. related_at (length x) w x (p + 4) y (j + (p - i) + 4)) ≡ choose (r && (sets_related w m n && related w b d)) (λ _. some (i + (ty_size a + ty_size b + 5))) (λ _. none)
+        go : (r : Bool) → related (turned w) a c ≡ r → after (choose r (λ _. Some (i + 1 + ty_size a)) (λ _. None)) (λ p. must (sets_at w x p y (j + (p - i))) λ _. related_at (length x) w x (p + 4) y (j + (p - i) + 4)) ≡ choose (r && (sets_related w m n && related w b d)) (λ _. Some (i + (ty_size a + ty_size b + 5))) (λ _. None)
         go false e = refl
         go true e =
             let z = s.sized e in
@@ -103,21 +101,21 @@ module _ (x y : List ℕ) where
   said w (fun a m b) (ref l u) i j h k = apart refl h.0 k.0 refl
   said w (fun a m b) (fun c n d) i j h k = functions h k (said (turned w) a c (i + 1) (j + 1) h.1 k.1) (said w b d (i + 1 + ty_size a + 4) (j + 1 + ty_size c + 4) h.3 k.3)
 
-cmp_is : (p : ℕ) (b : Bool) → cmp_of (choose b (λ _. some p) (λ _. none)) ≡ cmp p b
+cmp_is : (p : ℕ) (b : Bool) → choose b (λ _. Some p) (λ _. None) ≡ cmp p b
 cmp_is p true = refl
 cmp_is p false = refl
 
 -- ---- what a caller uses
 
-pub says : {x y : List ℕ} {i j : ℕ} {w : Way} {r : Cmp} → Related x i y j w r → (t u : Ty) → Holds x i t → Holds y j u → r ≡ cmp (i + ty_size t) (related w t u)
-says {x} {y} {i} {j} {w} D t u h k = D.said ∙ ap cmp_of (said x y w t u i j h k).gives ∙ cmp_is (i + ty_size t) (related w t u)
+pub says : {x y : List ℕ} {i j : ℕ} {w : Way} {r : Option ℕ} → Related x i y j w r → (t u : Ty) → Holds x i t → Holds y j u → r ≡ cmp (i + ty_size t) (related w t u)
+says {x} {y} {i} {j} {w} D t u h k = D.said ∙ (said x y w t u i j h k).gives ∙ cmp_is (i + ty_size t) (related w t u)
 
-pub cmp_next : (q p : ℕ) (b : Bool) → Next p ≡ cmp q b → (b ≡ true) × (p ≡ q)
+pub cmp_next : (q p : ℕ) (b : Bool) → Some p ≡ cmp q b → (b ≡ true) × (p ≡ q)
 cmp_next q p true e = (refl, cc)
-cmp_next q p false e = no_next p (sym e)
+cmp_next q p false e = no_some p (sym e)
 
-pub cmp_differ : (q : ℕ) (b : Bool) → Differ ≡ cmp q b → b ≡ false
-cmp_differ q true e = no_next q e
+pub cmp_differ : (q : ℕ) (b : Bool) → None ≡ cmp q b → b ≡ false
+cmp_differ q true e = no_some q e
 cmp_differ q false e = refl
 
 -- the paper's word for below

@@ -3,8 +3,8 @@ use mathlib.Core.Path.{◌≡◌, sym, ◌∙◌}
 use mathlib.Core.List.{List}
 use Prim.Native.Nat.{ℕ}
 use Rattle.paper.specs.Types.{Way}
-use Rattle.types.specs.declared.subtype.Cmp.{Cmp}
+use Rattle.std.specs.Prelude.{Option}
 use Rattle.types.specs.Subtype.{Related}
 
-pub related_unique : {x y : List ℕ} {i j : ℕ} {w : Way} {r r' : Cmp} → Related x i y j w r → Related x i y j w r' → r ≡ r'
+pub related_unique : {x y : List ℕ} {i j : ℕ} {w : Way} {r r' : Option ℕ} → Related x i y j w r → Related x i y j w r' → r ≡ r'
 related_unique a b = a.said ∙ sym b.said
