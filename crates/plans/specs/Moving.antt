@@ -1,20 +1,21 @@
--- Bytes moved within a lent part, one by one from either end; a slot in which the tail was moved, the new bytes were laid down before it,
+-- Bytes moved within a lent part; a slot in which the tail was moved, the new bytes were laid down before it,
 -- and what is behind was cleared; and that this is the exchange.
-use Rattle.std.specs.Prelude.{◌≡◌, ◌⊎◌, ◌≢◌, ℕ, ◌+◌, ◌-◌, ◌<◌, ◌≤◌, max, set, take, replicate}
+use Rattle.std.specs.Prelude.{◌≡◌, ◌⊎◌, ℕ, ◌+◌, ◌-◌, ◌<◌, ◌≤◌, max, take, replicate}
 use Rattle.std.proofs.Math.Path.{refl, ap}
-use Rattle.std.proofs.Common.{sym, ◌∙◌, inl, inr, ⊎_elim, length-set, length-append, length-take, length-drop, drop_of_length-le, ext_get_or, get_or-set_same, get_or-set_other, take-take}
+use Rattle.std.proofs.Common.{sym, ◌∙◌, inl, inr, ⊎_elim, length-append, length-take, length-drop, drop_of_length-le, ext_get_or, take-take}
 use mathlib.Core.List.{List, ◌++◌, append-nil}
 use native.Mathlib.Omega.{arith}
 use Rattle.std.proofs.Math.ListN.{length, drop, get_or-eq_default}
 use Rattle.std.proofs.lemmas.List.{length-replicate}
 use Rattle.std.proofs.Math.Seq.{get_or-take, get_or-drop}
+use Rattle.std.specs.List.{CopiedTo, SameBelow, SameFrom}
 use Rattle.paper.specs.Base.{at}
 use Rattle.paper.specs.States.{pad}
 use Rattle.paper.specs.Calls.{laid}
 use Rattle.laws.specs.Lists.{spliced}
 use Rattle.laws.specs.SlotBytes.{pad_length}
 use Rattle.plans.specs.Slots.{at_before, at_behind, zeros_at, pad_at}
-use Rattle.places.specs.Cases.{side, same?}
+use Rattle.places.specs.Cases.{side}
 use Rattle.plans.specs.Store.{Room, two_put}
 use Rattle.plans.specs.Filling.{back, back_length, back_before, back_in, back_behind, stored_made}
 use Rattle.plans.specs.Exchange.{exchanged, Inside, Exchanges}
@@ -25,43 +26,13 @@ pub record Moved (from to lo hi : ℕ) (before after : List ℕ) : Type 0 where
   pub done : (k : ℕ) → lo ≤ k → k < hi → at after (to + k) ≡ at before (from + k)
   pub rest : (k : ℕ) → (k < to + lo) ⊎ (to + hi ≤ k) → at after k ≡ at before k
 
-pub moved_none : {from to i : ℕ} {before : List ℕ} → Moved from to i i before before
-moved_none = record { kept = refl; done = λ k l u. absurd (omega arith); rest = λ k o. refl }
-
--- bytes that stay are moved
-pub moved_same : (from n : ℕ) {to : ℕ} {before : List ℕ} → from ≡ to → Moved from to 0 n before before
-moved_same from n {before = before} e = record { kept = refl; done = λ k l u. ap (λ x. at before (x + k)) (sym e); rest = λ k o. refl }
-
--- one more, number j, at either end of those that are moved already
-moved_more : {from to lo hi : ℕ} {before part : List ℕ} → Moved from to lo hi before part → (lo' hi' j v : ℕ)
-    → lo' ≤ lo → hi ≤ hi' → lo' ≤ j → j < hi' → ((k : ℕ) → lo' ≤ k → k < hi' → k ≢ j → (lo ≤ k) × (k < hi))
-    → to + j < length before → v ≡ at before (from + j) → Moved from to lo' hi' before (set part (to + j) v)
-moved_more {from = from} {to = to} {before = before} {part = part} t lo' hi' j v a b l u only h e = record {
-  kept = length-set part (to + j) v ∙ t.kept;
-  done = λ k c d. go k c d (same? k j);
-  rest = λ k o.
-      get_or-set_other part (to + j) k v 0 (⊎_elim (λ c q. omega arith) (λ c q. omega arith) o)
-      ∙ t.rest k (⊎_elim (λ c. inl (omega arith)) (λ c. inr (omega arith)) o);
+pub moved_within : {from to n : ℕ} {before after : List ℕ} → length after ≡ length before
+    → CopiedTo before after from to n × SameBelow before after to × SameFrom before after (to + n) → Moved from to 0 n before after
+moved_within {from = from} {to = to} {before = before} l w = record {
+  kept = l;
+  done = λ k a b. let e : to + k - to ≡ k = omega arith in w.0 (to + k) 0 (omega arith) (omega arith) ∙ ap (λ x. at before (from + x)) e;
+  rest = λ k o. ⊎_elim (λ c. w.1 k 0 (omega arith)) (λ c. w.2 k 0 c) o;
 }
-  where
-    go : (k : ℕ) → lo' ≤ k → k < hi' → (k ≡ j) ⊎ (k ≢ j) → at (set part (to + j) v) (to + k) ≡ at before (from + k)
-    go k c d (inl q) = rw q (get_or-set_same part (to + j) v 0 (omega (arith, t.kept)) ∙ e)
-    go k c d (inr n) =
-        let i = only k c d n in
-        get_or-set_other part (to + j) (to + k) v 0 (λ q. n (omega arith)) ∙ t.done k i.0 i.1
-
--- downwards the next one is not written over yet
-pub moved_next : {from to i : ℕ} {before part : List ℕ} → Moved from to 0 i before part → to ≤ from → to + i < length before
-    → Moved from to 0 (i + 1) before (set part (to + i) (at part (from + i)))
-moved_next {from = from} {i = i} t d h =
-    moved_more t 0 (i + 1) i _ (omega arith) (omega arith) (omega arith) (omega arith) (λ k l u n. omega arith) h (t.rest (from + i) (inr (omega arith)))
-
--- nor is upwards the one before
-pub moved_last : {from to i n : ℕ} {before part : List ℕ} → Moved from to i n before part → from ≤ to → 0 < i → i ≤ n → to + n ≤ length before
-    → Moved from to (i - 1) n before (set part (to + (i - 1)) (at part (from + (i - 1))))
-moved_last {from = from} {i = i} {n = n} t d p m h =
-    moved_more t (i - 1) n (i - 1) _ (omega arith) (omega arith) (omega arith) (omega arith) (λ k l u n. omega arith) (omega arith)
-    (t.rest (from + (i - 1)) (inl (omega arith)))
 
 -- ---- the bytes with a part of them exchanged, by place
 

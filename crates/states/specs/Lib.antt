@@ -9,6 +9,7 @@ pub mod SlotRows
 pub mod FromTests
 pub mod ToTests
 pub mod IsState
+pub mod Unfit
 -- ---- the race finder
 pub mod Pairs
 pub mod RaceIs

@@ -1,12 +1,11 @@
 -- "gives the first pair i < j, by i and then j, both about to read or write one cell, and that cell; or none": over what each thread is about to
 -- touch, 0 for nothing and one more than the cell's number.
-use Rattle.std.specs.Prelude.{◌≡◌, refl, ◌⊎◌, List, ℕ, zero, suc, ◌+◌, ◌*◌, ◌-◌, ◌<◌, ◌≤◌, length}
+use Rattle.std.specs.Prelude.{◌≡◌, refl, ◌⊎◌, List, ℕ, zero, suc, ◌+◌, ◌*◌, ◌-◌, ◌<◌, ◌≤◌, length, Option, Some, None}
 use Rattle.std.proofs.Common.{sym, subst, ◌∙◌, inl, inr, arith}
 use Rattle.paper.specs.Base.{word16}
 use Rattle.places.specs.Cases.{side}
 use Rattle.slots.specs.Way.{aim_of}
-use Rattle.states.specs.declared.races.Race.{Race}
-use Rattle.states.specs.declared.races.Race.TheVariants.{Between, NoRace, BufferShort, NoState}
+use Rattle.states.specs.declared.races.Pair.{Pair}
 use Rattle.states.specs.Rows.{in_slot}
 
 -- ---- the threads by their bytes
@@ -47,11 +46,9 @@ pub record First (t : ℕ → ℕ) (n i j c : ℕ) : Type 0 where
   pub cell : t i ≡ suc c
   pub first : NoneBefore t n i j
 
-abbrev pub PairIs : (ℕ → ℕ) → ℕ → Race → Type 0
-PairIs t n (Between i j c) = First t n i j c
-PairIs t n NoRace = (p q : ℕ) → p < q → q < n → Hit t p q → ⊥
-PairIs t n BufferShort = ⊥
-PairIs t n NoState = ⊥
+abbrev pub PairIs : (ℕ → ℕ) → ℕ → Option Pair → Type 0
+PairIs t n (Some w) = First t n w.first w.second w.cell
+PairIs t n None = (p q : ℕ) → p < q → q < n → Hit t p q → ⊥
 
 -- ---- pair after pair
 

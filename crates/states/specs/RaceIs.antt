@@ -1,6 +1,6 @@
 -- The race finder's answer is `race_call`'s: what each thread's bytes aim at is what its term touches, and the first pair by the one is the first
 -- pair by the other.
-use Rattle.std.specs.Prelude.{◌≡◌, refl, ◌⊎◌, true, false, List, get_or}
+use Rattle.std.specs.Prelude.{◌≡◌, refl, ◌⊎◌, true, List, get_or, Result, Ok, Err, Option as Maybe, Some, None}
 use Rattle.std.proofs.Common.{sym, ◌∙◌, subst, inl, inr, arith}
 use Rattle.std.proofs.Math.Path.{ap}
 use Rattle.std.proofs.Math.Option.{Option, none, some}
@@ -25,8 +25,10 @@ use Rattle.places.specs.Cases.{side}
 use Rattle.plans.specs.Reads.{threads_read, thread_read}
 use Rattle.slots.specs.Way.{aim_of, aim_number}
 use Rattle.slots.specs.WayTerm.{aims, aim_cell}
-use Rattle.states.specs.declared.races.Race.{Race}
-use Rattle.states.specs.declared.races.Race.TheVariants.{Between, NoRace, BufferShort, NoState}
+use Rattle.states.specs.declared.races.Pair.{Pair as Two}
+use Rattle.states.specs.declared.Unfit.{Unfit}
+use Rattle.states.specs.declared.Unfit.TheVariants.{BufferShort, NoState}
+use Rattle.states.specs.Unfit.{Why}
 use Rattle.states.specs.SlotRows.{filled_in}
 use Rattle.states.specs.IsState.{is_state, is_state_lem, not_state_lem, state_long}
 use Rattle.states.specs.Pairs.{ThreadsIn, aim_by, Hit, First, PairIs}
@@ -34,29 +36,29 @@ use Rattle.states.specs.Pairs.{ThreadsIn, aim_by, Hit, First, PairIs}
 -- ---- the contract
 
 -- the code's answer as the case that it is
-abbrev pub case_of : Race → RaceCase
-case_of (Between i j c) = RaceCase.between i j c
-case_of NoRace = RaceCase.no_race
-case_of BufferShort = RaceCase.buffer_short
-case_of NoState = RaceCase.no_state
+abbrev pub case_of : Result (Maybe Two) Unfit → RaceCase
+case_of (Ok (Some w)) = RaceCase.between w.first w.second w.cell
+case_of (Ok None) = RaceCase.no_race
+case_of (Err BufferShort) = RaceCase.buffer_short
+case_of (Err NoState) = RaceCase.no_state
 
-pub record Raced (s : List ℕ) (r : Race) : Type 0 where
+pub record Raced (s : List ℕ) (r : Result (Maybe Two) Unfit) : Type 0 where
   pub says : told_race (case_of r) ≡ race_call sixteen s
 
-abbrev race_of : RaceCase → Race
-race_of (RaceCase.between i j c) = Between i j c
-race_of RaceCase.no_race = NoRace
-race_of RaceCase.buffer_short = BufferShort
-race_of RaceCase.no_state = NoState
+abbrev race_of : RaceCase → Result (Maybe Two) Unfit
+race_of (RaceCase.between i j c) = Ok (Some (record { first = i; second = j; cell = c }))
+race_of RaceCase.no_race = Ok None
+race_of RaceCase.buffer_short = Err BufferShort
+race_of RaceCase.no_state = Err NoState
 
-case_back : (r : Race) → race_of (case_of r) ≡ r
-case_back (Between i j c) = refl
-case_back NoRace = refl
-case_back BufferShort = refl
-case_back NoState = refl
+case_back : (r : Result (Maybe Two) Unfit) → race_of (case_of r) ≡ r
+case_back (Ok (Some w)) = refl
+case_back (Ok None) = refl
+case_back (Err BufferShort) = refl
+case_back (Err NoState) = refl
 
 -- only one answer is right
-pub raced_one : {s : List ℕ} {r r' : Race} → Raced s r → Raced s r' → r ≡ r'
+pub raced_one : {s : List ℕ} {r r' : Result (Maybe Two) Unfit} → Raced s r → Raced s r' → r ≡ r'
 raced_one {r = r} {r' = r'} a b =
     sym (case_back r) ∙ ap race_of (race_injective (case_of r) (case_of r') (a.says ∙ sym b.says)) ∙ case_back r'
 
@@ -115,12 +117,10 @@ module _ (t : ℕ → ℕ) (es : List Term) (aim_is : (i : ℕ) → i < length e
       go (found x) = let w = pair_hit x.pair in absurd (f x.a x.b x.pair.order w.1 w.0)
       go (none_there g) = refl
 
-  pair_says : (r : Race) → PairIs t (length es) r → told_race (case_of r) ≡ record { answer = done; pair = race 0 es }
+  pair_says : (r : Maybe Two) → PairIs t (length es) r → told_race (case_of (Ok r)) ≡ record { answer = done; pair = race 0 es }
   unfolding told_race
-  pair_says (Between i j c) f = ap (λ (o : Option FirstPair). record { answer = done; pair = o }) (sym (first_race f))
-  pair_says NoRace f = ap (λ (o : Option FirstPair). record { answer = done; pair = o }) (sym (none_race f))
-  pair_says BufferShort f = absurd f
-  pair_says NoState f = absurd f
+  pair_says (Some w) f = ap (λ (o : Option FirstPair). record { answer = done; pair = o }) (sym (first_race f))
+  pair_says None f = ap (λ (o : Option FirstPair). record { answer = done; pair = o }) (sym (none_race f))
 
 -- ---- on a buffer
 
@@ -135,7 +135,7 @@ module _ (s : List ℕ) (S : State) (holds : Holds sixteen s S) where
       let w = thread_read sixteen sixteen_fits s S holds i h in
       record { few = omega (arith, (good_fits sixteen S holds.state).threads); inside = w.room; fits = omega (arith, w.says, w.fits) }
 
-  raced_there : 49408 ≤ length s → {r : Race} → PairIs (aim_by 2048 s) (length S.threads) r → Raced s r
+  raced_there : 49408 ≤ length s → {r : Maybe Two} → PairIs (aim_by 2048 s) (length S.threads) r → Raced s (Ok r)
   raced_there long {r} p = record {
     says = pair_says (aim_by 2048 s) S.threads aim_there r p ∙ sym (race_call_lem sixteen sixteen_fits s S (omega (arith, sixteen_total)) holds);
   }
@@ -145,13 +145,10 @@ module _ (s : List ℕ) (S : State) (holds : Holds sixteen s S) where
 
 -- ---- the ways of the code
 
-pub raced_short : (s : List ℕ) → length s < 49408 → Raced s BufferShort
+pub raced_unfit : (s : List ℕ) (e : Unfit) → Why s e → Raced s (Err e)
 unfolding told_race
-raced_short s h = record { says = sym (race_short sixteen s (omega (arith, sixteen_total))) }
-
-pub raced_foreign : (s : List ℕ) → 49408 ≤ length s → is_state s ≡ false → Raced s NoState
-unfolding told_race
-raced_foreign s h e = record { says = sym (race_foreign sixteen s (omega (arith, sixteen_total)) (not_state_lem s e)) }
+raced_unfit s BufferShort h = record { says = sym (race_short sixteen s (omega (arith, sixteen_total))) }
+raced_unfit s NoState h = record { says = sym (let l = h.0 in race_foreign sixteen s (omega (arith, sixteen_total)) (not_state_lem s h.1)) }
 
 module _ (s : List ℕ) (e : is_state s ≡ true) {n : ℕ} (counted : n ≡ at s 3) where
   held : (S : State) × Holds sixteen s S
@@ -163,5 +160,5 @@ module _ (s : List ℕ) (e : is_state s ≡ true) {n : ℕ} (counted : n ≡ at 
   pub threads_in : ThreadsIn 2048 s n
   threads_in = rw number (threads_there s held.0 held.1)
 
-  pub raced_pair : {r : Race} → PairIs (aim_by 2048 s) n r → Raced s r
+  pub raced_pair : {r : Maybe Two} → PairIs (aim_by 2048 s) n r → Raced s (Ok r)
   raced_pair {r} p = raced_there s held.0 held.1 (state_long s e) (subst (λ (k : ℕ). PairIs (aim_by 2048 s) k r) number p)

@@ -5,12 +5,33 @@ mod rows; // rows.rt: the used slots of threads and cells
 mod plan; // plan.rt: the header, the unused bytes, the whole plan
 pub mod races; // races.rt: the race finder
 
+ghost use Rattle.std.specs.Prelude.{◌≡◌};
 ghost use Rattle.states.specs.IsState.{SaysState};
+ghost use Rattle.states.specs.Unfit.{number, Checked};
 ghost use Rattle.states.specs.RaceIs.{Raced};
 
 use crate::plan::is_state_of;
-use crate::races::{Race, first_pair};
+use crate::races::{Pair, first_pair};
 use places::byte_at;
+
+// Why a call on a buffer is refused before anything else is looked at: the rows 1 and 18 of document 01's table.
+#[derive(Clone, Copy, Debug, PartialEq, Eq)]
+pub enum Unfit {
+    BufferShort,
+    NoState,
+}
+
+impl Unfit {
+    // Document 01's number.
+    pub fn number(self) -> u8
+        ensures { result ≡ number self }
+    {
+        match self {
+            Unfit::BufferShort => 1,
+            Unfit::NoState => 18,
+        }
+    }
+}
 
 // Whether the buffer's first 49,408 bytes are a state.
 pub fn is_state(state: &[u8]) -> bool
@@ -21,15 +42,23 @@ pub fn is_state(state: &[u8]) -> bool
     is_state_of(state, 16, 2048, 64, 256, 32, &mut marks, &mut stack)
 }
 
-// The first pair of threads that are about to read or write one cell.
-pub fn race(state: &[u8]) -> Race
-    ensures { Raced state.now result }
+// Whether the buffer is fit for a call: long enough, and a state.
+pub fn check_state(state: &[u8]) -> Result<(), Unfit>
+    ensures { Checked state.now result }
 {
     if state.len() < 49408 {
-        return Race::BufferShort;
+        return Err(Unfit::BufferShort);
     }
     if !is_state(state) {
-        return Race::NoState;
+        return Err(Unfit::NoState);
     }
-    first_pair(state, 2048, byte_at(state, 3) as usize)
+    Ok(())
+}
+
+// The first pair of threads that are about to read or write one cell.
+pub fn race(state: &[u8]) -> Result<Option<Pair>, Unfit>
+    ensures { Raced state.now result }
+{
+    check_state(state)?;
+    Ok(first_pair(state, 2048, byte_at(state, 3) as usize))
 }

@@ -5,13 +5,12 @@ ghost use Rattle.states.specs.Pairs.{thread_text, ThreadIn, ThreadsIn, aim_by, P
 use places::two_at;
 use slots::way::aim;
 
-#[derive(Clone, Copy)]
-pub enum Race {
-    // The two threads, and the cell.
-    Between(usize, usize, usize),
-    NoRace,
-    BufferShort,
-    NoState,
+// Two threads, by number, and the cell that both are about to read or write.
+#[derive(Clone, Copy, Debug, PartialEq, Eq)]
+pub struct Pair {
+    pub first: usize,
+    pub second: usize,
+    pub cell: usize,
 }
 
 // The cell that thread i is about to read or write: 0 where there is none, or one more than its number.
@@ -25,17 +24,21 @@ fn aim_of(s: &[u8], size: usize, i: usize) -> usize
 }
 
 // "the first pair i < j, by i and then j, both about to read or write one cell, and that cell; or none", of n threads
-pub(crate) fn first_pair(s: &[u8], size: usize, n: usize) -> Race
+pub(crate) fn first_pair(s: &[u8], size: usize, n: usize) -> Option<Pair>
     requires { ThreadsIn size s.now n }
     ensures { PairIs (aim_by size s.now) n result }
 {
-    let mut found = Race::NoRace;
+    let mut found = None;
     'pairs: for i in 0..n {
         let a = aim_of(s, size, i);
         for j in i + 1..n {
             if a != 0 {
                 if aim_of(s, size, j) == a {
-                    found = Race::Between(i, j, a - 1);
+                    found = Some(Pair {
+                        first: i,
+                        second: j,
+                        cell: a - 1,
+                    });
                     break 'pairs;
                 }
             }

@@ -1,21 +1,15 @@
 -- The ways of `RaceIs`.
-use mathlib.Core.Path.{sym, ◌∙◌}
-use native.Mathlib.Omega.{arith}
-use Rattle.states.specs.RaceIs.{raced_short, raced_foreign, threads_in, raced_pair}
+use Rattle.std.proofs.lemmas.Result.{err_from_is_err_and}
+use Rattle.states.specs.RaceIs.{raced_unfit, threads_in, raced_pair}
 use Rattle.states.proofs.race.Goals as goal
 
-pub returns-then-state-lt49408 : goal.returns-then-state-lt49408
-returns-then-state-lt49408 c = raced_short c.args.state.now (omega (arith, c.if-state-lt49408.true))
-
-pub returns-then-not-is_state : goal.returns-then-not-is_state
-returns-then-not-is_state c = raced_foreign c.args.state.now (omega (arith, c.if-state-lt49408.false)) (sym c.is_state.ensures.says ∙ c.if-not-is_state.true)
+pub returns-in_err-check_state : goal.returns-in_err-check_state
+returns-in_err-check_state c =
+    let p = err_from_is_err_and c.from_residual.result c.from_residual.ensures.1 in
+    rw (p.1, p.2) (raced_unfit c.args.state.now _ c.in_err-check_state.ensures)
 
 pub first_pair-requires : goal.first_pair-requires
-first_pair-requires c =
-    threads_in c.args.state.now (sym c.is_state.ensures.says ∙ c.if-not-is_state.false)
-    c.byte_at.ensures
+first_pair-requires c = threads_in c.args.state.now c.in_ok-check_state.ensures c.byte_at.ensures
 
 pub returns : goal.returns
-returns c =
-    raced_pair c.args.state.now (sym c.is_state.ensures.says ∙ c.if-not-is_state.false)
-    c.byte_at.ensures c.first_pair.ensures
+returns c = raced_pair c.args.state.now c.in_ok-check_state.ensures c.byte_at.ensures c.first_pair.ensures
