@@ -2,21 +2,20 @@
 -- has no other. The first reading has an arm for most codes and asks here of the rest; the proofs of the typing go by the whole table.
 use Rattle.std.specs.Prelude.{ℕ, ◌+◌, List, ltb, eqb}
 use Rattle.types.specs.Stated.{pick, name_at, set_at, stated_at}
-use Rattle.types.specs.declared.stated.Got.{Got}
-use Rattle.types.specs.declared.stated.Got.TheVariants.{Next, Refused}
+use Rattle.paper.specs.Verdict.{Out, ok, refused}
 use Rattle.types.specs.Told.{told, on}
 use Rattle.reading.specs.First.{num_at, var_at}
 
 -- the own fields of the expression with code b at `at`, by the readers by tags
-unfoldable pub fields : ℕ → ℕ → ℕ → List ℕ → ℕ → Got
+unfoldable pub fields : ℕ → ℕ → ℕ → List ℕ → ℕ → Out ℕ
 fields b v n s at =
     pick (eqb b 2) (told (num_at s (at + 1)))
     (pick (eqb b 3) (told (var_at v s (at + 1)))
     (pick (eqb b 4) (on (told (stated_at n s (at + 1))) (λ p. told (set_at n s p)))
     (pick (eqb b 6) (on (told (name_at n s (at + 1))) (λ p. told (stated_at n s p)))
-    (pick (eqb b 10) (pick (ltb n 32) (Next (at + 1)) (Refused 7 at))
+    (pick (eqb b 10) (pick (ltb n 32) (ok (at + 1)) (refused 7 at))
     (pick (eqb b 15) (told (stated_at n s (at + 1)))
-    (Next (at + 1)))))))
+    (ok (at + 1)))))))
 
 -- how many parts
 unfoldable pub parts : ℕ → ℕ

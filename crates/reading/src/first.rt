@@ -1,177 +1,149 @@
 // An expression, read from left to right: its code, its own fields, then its parts. The code is looked at once, in `read_lead`: asked again for
 // its fields, its parts and what they are under, it cost a third of the time of this reading, in branches that no processor foresees.
-ghost use Rattle.std.specs.Prelude.{◌≡◌, ◌+◌, ◌≤◌};
+ghost use Rattle.std.specs.Prelude.{◌≡◌};
+ghost use Rattle.answers.specs.Said.{said};
 ghost use Rattle.types.specs.Told.{told};
 ghost use Rattle.paper.specs.Reading.{word, index, read_exp};
+ghost use Rattle.codes.specs.Codes.{exp_byte};
 ghost use Rattle.reading.specs.Walk.{parts};
-ghost use Rattle.reading.specs.Contract.{leaf, Due, Led};
+ghost use Rattle.reading.specs.Contract.{Due, Led};
 
-use types::stated::Got;
+use crate::scope::Scope;
+use answers::Refusal;
+use codes::ExpCode;
+use types::stated::{has_four, read_name, read_set, read_stated};
 
-// An expression before its last part: read whole, where it has none, with the place after it; refused; or the last part's place, with the
-// variables and the locks that it is under.
-#[derive(Clone, Copy)]
+// An expression before its last part: read whole, where it has none, with the place after it; or the last part's place, and what that stands under.
+#[derive(Clone, Copy, Debug, PartialEq, Eq)]
 pub(crate) enum Lead {
     Whole(usize),
-    Wrong(u8, usize),
-    Last(usize, u8, u8),
+    Last(usize, Scope),
 }
 
 // A number's four bytes.
-fn lead_number(s: &[u8], at: usize) -> Lead
-    ensures { result ≡ leaf (told (word s.now at)) }
+fn read_number(s: &[u8], at: usize) -> Result<usize, Refusal>
+    ensures { said result ≡ told (word s.now at) }
 {
-    if s.len() < 4 {
-        return Lead::Wrong(5, s.len());
+    if has_four(s, at) {
+        Ok(at + 4)
+    } else {
+        Err(Refusal::CutImage(s.len()))
     }
-    if s.len() - 4 < at {
-        return Lead::Wrong(5, s.len());
-    }
-    Lead::Whole(at + 4)
 }
 
 // A variable's index.
-fn lead_variable(s: &[u8], at: usize, vars: u8) -> Lead
-    ensures { result ≡ leaf (told (index s.now vars at)) }
+fn read_index(s: &[u8], at: usize, vars: u8) -> Result<usize, Refusal>
+    ensures { said result ≡ told (index s.now vars at) }
 {
     if s.len() <= at {
-        return Lead::Wrong(5, s.len());
+        return Err(Refusal::CutImage(s.len()));
     }
     let index = s[at];
     if index < vars {
-        Lead::Whole(at + 1)
+        Ok(at + 1)
     } else {
-        Lead::Wrong(8, at)
+        Err(Refusal::UnboundVariable(at))
     }
 }
 
-// A function: the argument's type and the lock set, then the body, under one variable more. `left` is here for the contract alone.
-fn lead_function(s: &[u8], at: usize, vars: u8, locks: u8, left: u8) -> Lead
-    requires { Due s.now at 4 vars locks left }
-    ensures { Led s.now at vars locks left result }
+// A function: the argument's type and the lock set, then the body, under one variable more.
+fn lead_function(s: &[u8], at: usize, under: Scope) -> Result<Lead, Refusal>
+    requires { Due s.now at 4 under }
+    ensures { Led s.now at under result }
 {
-    match types::stated::read_stated(s, at + 1, locks) {
-        Got::Refused(k, p) => Lead::Wrong(k, p),
-        Got::Next(p) => match types::stated::read_set(s, p, locks) {
-            Got::Refused(k, q) => Lead::Wrong(k, q),
-            Got::Next(q) => Lead::Last(q, vars + 1, locks),
-        },
-    }
+    let p = read_stated(s, at + 1, under.locks)?;
+    let q = read_set(s, p, under.locks)?;
+    Ok(Lead::Last(q, under.body()))
 }
 
-// A new cell: the lock's name and the content's type, then the content. `left` is here for the contract alone.
-fn lead_cell(s: &[u8], at: usize, vars: u8, locks: u8, left: u8) -> Lead
-    requires { Due s.now at 6 vars locks left }
-    ensures { Led s.now at vars locks left result }
+// A new cell: the lock's name and the content's type, then the content.
+fn lead_cell(s: &[u8], at: usize, under: Scope) -> Result<Lead, Refusal>
+    requires { Due s.now at 6 under }
+    ensures { Led s.now at under result }
 {
-    match types::stated::read_name(s, at + 1, locks) {
-        Got::Refused(k, p) => Lead::Wrong(k, p),
-        Got::Next(p) => match types::stated::read_stated(s, p, locks) {
-            Got::Refused(k, q) => Lead::Wrong(k, q),
-            Got::Next(q) => Lead::Last(q, vars, locks),
-        },
-    }
+    let p = read_name(s, at + 1, under.locks)?;
+    let q = read_stated(s, p, under.locks)?;
+    Ok(Lead::Last(q, under.part()))
 }
 
 // Two parts and no field: apply, write, section, then and add; and let, whose second part is under one variable more.
 #[cycle(leads)]
-fn lead_two(s: &[u8], at: usize, code: u8, vars: u8, locks: u8, left: u8) -> Lead
-    requires { Due s.now at code vars locks left × (parts code ≡ 2) }
-    ensures { Led s.now at vars locks left result }
+fn lead_two(s: &[u8], at: usize, code: ExpCode, under: Scope) -> Result<Lead, Refusal>
+    requires { Due s.now at (exp_byte code) under × (parts (exp_byte code) ≡ 2) }
+    ensures { Led s.now at under result }
 {
-    match read_exp(s, at + 1, vars, locks, left - 1) {
-        Got::Refused(k, p) => Lead::Wrong(k, p),
-        Got::Next(p) => {
-            if code == 12 {
-                Lead::Last(p, vars + 1, locks)
-            } else {
-                Lead::Last(p, vars, locks)
-            }
-        }
+    let p = read_exp(s, at + 1, under.part())?;
+    match code {
+        ExpCode::Let => Ok(Lead::Last(p, under.body())),
+        _ => Ok(Lead::Last(p, under.part())),
     }
 }
 
 // An if: the result's type, then three parts.
 #[cycle(leads)]
-fn lead_if(s: &[u8], at: usize, vars: u8, locks: u8, left: u8) -> Lead
-    requires { Due s.now at 15 vars locks left }
-    ensures { Led s.now at vars locks left result }
+fn lead_if(s: &[u8], at: usize, under: Scope) -> Result<Lead, Refusal>
+    requires { Due s.now at 15 under }
+    ensures { Led s.now at under result }
 {
-    match types::stated::read_stated(s, at + 1, locks) {
-        Got::Refused(k, p) => Lead::Wrong(k, p),
-        Got::Next(p) => match read_exp(s, p, vars, locks, left - 1) {
-            Got::Refused(k, q) => Lead::Wrong(k, q),
-            Got::Next(q) => match read_exp(s, q, vars, locks, left - 1) {
-                Got::Refused(k, r) => Lead::Wrong(k, r),
-                Got::Next(r) => Lead::Last(r, vars, locks),
-            },
-        },
-    }
+    let p = read_stated(s, at + 1, under.locks)?;
+    let q = read_exp(s, p, under.part())?;
+    let r = read_exp(s, q, under.part())?;
+    Ok(Lead::Last(r, under.part()))
 }
 
-// The expression at `at`, under `vars` binders and `locks` locks, with `left` of the nesting left, up to its last part. Of its code: 5, 4, then 7.
-// What an arm calls is called nowhere else, so that the compiler takes it in.
+// The expression at `at`, up to its last part. Of its code: 5, 4, then 7. What an arm calls is called nowhere else, so that the compiler takes it in.
 #[cycle(leads)]
-fn read_lead(s: &[u8], at: usize, vars: u8, locks: u8, left: u8) -> Lead
-    requires { (vars + left ≤ 64) × (locks ≤ 32) }
-    ensures { Led s.now at vars locks left result }
+fn read_lead(s: &[u8], at: usize, under: Scope) -> Result<Lead, Refusal>
+    ensures { Led s.now at under result }
 {
     if s.len() <= at {
-        return Lead::Wrong(5, s.len());
+        return Err(Refusal::CutImage(s.len()));
     }
-    let code = s[at];
-    if code == 0 {
-        return Lead::Wrong(4, at);
-    }
-    if 15 < code {
-        return Lead::Wrong(4, at);
-    }
-    if left == 0 {
-        return Lead::Wrong(7, at);
+    let Ok(code) = ExpCode::try_from(s[at]) else {
+        return Err(Refusal::NoSuchCode(at));
+    };
+    if under.left == 0 {
+        return Err(Refusal::OverLimit(at));
     }
     match code {
-        1 => Lead::Whole(at + 1),
-        2 => lead_number(s, at + 1),
-        3 => lead_variable(s, at + 1, vars),
-        4 => lead_function(s, at, vars, locks, left),
-        6 => lead_cell(s, at, vars, locks, left),
-        7 => Lead::Last(at + 1, vars, locks),
-        9 => Lead::Last(at + 1, vars, locks),
-        10 => {
-            if locks < 32 {
-                Lead::Last(at + 1, vars + 1, locks + 1)
+        ExpCode::Unit => Ok(Lead::Whole(at + 1)),
+        ExpCode::Number => Ok(Lead::Whole(read_number(s, at + 1)?)),
+        ExpCode::Variable => Ok(Lead::Whole(read_index(s, at + 1, under.vars)?)),
+        ExpCode::Function => lead_function(s, at, under),
+        ExpCode::NewCell => lead_cell(s, at, under),
+        ExpCode::Read | ExpCode::Fork => Ok(Lead::Last(at + 1, under.part())),
+        ExpCode::NewLock => {
+            if under.locks < 32 {
+                Ok(Lead::Last(at + 1, under.locked()))
             } else {
-                Lead::Wrong(7, at)
+                Err(Refusal::OverLimit(at))
             }
         }
-        15 => lead_if(s, at, vars, locks, left),
-        _ => lead_two(s, at, code, vars, locks, left),
+        ExpCode::If => lead_if(s, at, under),
+        ExpCode::Apply
+        | ExpCode::Write
+        | ExpCode::Section
+        | ExpCode::Let
+        | ExpCode::Then
+        | ExpCode::Add => { lead_two(s, at, code, under) }
     }
 }
 
 // The whole of it: on with the last part, as long as there is one.
 #[cycle(leads)]
-pub(crate) fn read_exp(s: &[u8], at: usize, vars: u8, locks: u8, left: u8) -> Got
-    requires { (vars + left ≤ 64) × (locks ≤ 32) }
-    ensures { result ≡ told (read_exp 1 left s.now locks vars at) }
+pub(crate) fn read_exp(s: &[u8], at: usize, under: Scope) -> Result<usize, Refusal>
+    ensures { said result ≡ told (read_exp 1 under.left s.now under.locks under.vars at) }
 {
     let mut place = at;
-    let mut under = vars;
-    let mut held = locks;
-    let mut deep = left;
+    let mut below = under;
     loop {
-        match read_lead(s, place, under, held, deep) {
+        match read_lead(s, place, below)? {
             Lead::Whole(p) => {
-                return Got::Next(p);
+                return Ok(p);
             }
-            Lead::Wrong(k, p) => {
-                return Got::Refused(k, p);
-            }
-            Lead::Last(p, v, n) => {
+            Lead::Last(p, part) => {
                 place = p;
-                under = v;
-                held = n;
-                deep -= 1;
+                below = part;
             }
         }
     }

@@ -1,41 +1,36 @@
 // The whole image: its length, its version, one expression, and nothing after it.
-ghost use Rattle.std.specs.Prelude.{◌≡◌, ◌<◌};
 ghost use Rattle.reading.specs.Contract.{ImageRead};
 
 use crate::first::read_exp;
-use types::stated::Got;
-
-fn wide(x: u8) -> usize
-    ensures { (result ≡ x) × (result < 256) }
-{
-    x as usize
-}
+use crate::scope::Scope;
+use answers::Refusal;
 
 // Refusals in the order 2, 3, then one reading of the expression for 4 to 9; bytes left over are 6.
-pub fn read_image(s: &[u8]) -> Got
+pub fn read_image(s: &[u8]) -> Result<usize, Refusal>
     ensures { ImageRead s.now result }
 {
     if s.len() < 3 {
-        return Got::Refused(2, 0);
+        return Err(Refusal::UntrueLength);
     }
     if 4096 < s.len() {
-        return Got::Refused(2, 0);
+        return Err(Refusal::UntrueLength);
     }
-    let follow = wide(s[0]) * 256 + wide(s[1]);
+    let follow = usize::from(u16::from_be_bytes([s[0], s[1]]));
     if follow + 2 != s.len() {
-        return Got::Refused(2, 0);
+        return Err(Refusal::UntrueLength);
     }
     if s[2] != 1 {
-        return Got::Refused(3, 2);
+        return Err(Refusal::OtherVersion);
     }
-    match read_exp(s, 3, 0, 0, 64) {
-        Got::Refused(k, p) => Got::Refused(k, p),
-        Got::Next(p) => {
-            if p == s.len() {
-                Got::Next(p)
-            } else {
-                Got::Refused(6, p)
-            }
-        }
+    let whole = Scope {
+        vars: 0,
+        locks: 0,
+        left: 64,
+    };
+    let p = read_exp(s, 3, whole)?;
+    if p == s.len() {
+        Ok(p)
+    } else {
+        Err(Refusal::LeftOver(p))
     }
 }

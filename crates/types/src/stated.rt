@@ -92,8 +92,13 @@ fn read_lead(s: &[u8], at: usize, locks: u8, left: u8) -> Result<Lead, Refusal>
     }
     match code {
         TypeCode::Unit | TypeCode::Int => Ok(Lead::Whole(at + 1)),
-        TypeCode::Lock => Ok(Lead::Whole(read_name(s, at + 1, locks)?)),
-        TypeCode::Ref => Ok(Lead::Last(read_name(s, at + 1, locks)?)),
+        TypeCode::Lock | TypeCode::Ref => {
+            let p = read_name(s, at + 1, locks)?;
+            match code {
+                TypeCode::Lock => Ok(Lead::Whole(p)),
+                _ => Ok(Lead::Last(p)),
+            }
+        }
         TypeCode::Function => {
             let p = read_type(s, at + 1, locks, left - 1)?;
             Ok(Lead::Last(read_set(s, p, locks)?))

@@ -16,7 +16,7 @@ use Rattle.laws.specs.Shown.{Shows, shown, denied, word_shows, name_shows, set_s
 use Rattle.laws.specs.TypesRead.{stated_shows}
 use Rattle.types.specs.Stated.{◌then◌, pick}
 use Rattle.types.proofs.stated.Agree.{after, code_in, code_other, code_ended, name_is, set_is, stated_is, pick_is, in_list}
-use Rattle.types.specs.declared.stated.Got.{Got}
+use Rattle.paper.specs.Verdict.{Out}
 use Rattle.types.specs.Told.{told}
 use Rattle.reading.proofs.first.Laws.{code_none}
 use Rattle.reading.proofs.first.Codes.{Kind, kind, is_1, is_2, is_3, is_4, is_5, is_6, is_7, is_8, is_9, is_10, is_11, is_12, is_13, is_14, is_15, no_code, above_codes, none_zero, none_above}
@@ -275,7 +275,7 @@ unfolding told
 told_alike i r r' (both q w) = refl
 told_alike i r r' neither = refl
 
-module _ (s : List ℕ) (i : ℕ) {r : Got} where
+module _ (s : List ℕ) (i : ℕ) {r : Out ℕ} where
   pub number_told : r ≡ told (num_at s i) → r ≡ told (word s i)
   number_told e = e ∙ ap told (num_is s i)
 

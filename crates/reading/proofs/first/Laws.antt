@@ -8,12 +8,16 @@ use native.Mathlib.Nat.{add-zero}
 use native.Mathlib.Numerals.{sub-one}
 use native.Mathlib.Decide.{ℕ_discrete}
 use lib.ListN.{length, get_or}
-use lib.Dec.{ltb, eqb, lit<}
-use borrow.Author.Tests.{le-ltb, lt-ltb, le-leb, lt-leb, ne_eqb, ltb-true}
+use lib.Dec.{leb, ltb, eqb, lit<}
+use borrow.Author.Tests.{le-ltb, lt-ltb, ne_eqb, ltb-true}
 use Rattle.paper.specs.Reading.{got, wrong}
+use Rattle.std.specs.Prelude.{◌⊎◌}
+use Rattle.std.proofs.Common.{inl, inr}
+use Rattle.codes.specs.declared.ExpCode.{ExpCode}
+use Rattle.codes.specs.declared.ExpCode.TheVariants as code
+use Rattle.codes.specs.Codes.{exp_byte}
 use Rattle.types.specs.Stated.{◌then◌, pick, name_at, set_at, stated_at}
-use Rattle.types.specs.declared.stated.Got.{Got}
-use Rattle.types.specs.declared.stated.Got.TheVariants.{Next, Refused}
+use Rattle.paper.specs.Verdict.{Out, ok, refused}
 use Rattle.types.specs.Told.{told, on}
 use Rattle.types.proofs.stated.Laws.{told_then, told_as}
 use Rattle.reading.specs.Placed.{Exp, lam, app, cell, write, sync, let_in, seq, add, if_not0}
@@ -62,35 +66,37 @@ code_none b h =
     no k l = ne_eqb b k (λ e. omega arith)
 
 module _ (s : List ℕ) (at : ℕ) where
-  pub num_short : length s < at + 4 → Refused 5 (length s) ≡ told (num_at s at)
-  unfolding told num_at
-  num_short h = simp (lt-leb _ _ h)
+  -- x says whether four bytes stand there
+  module _ {x : Bool} (h : x ≡ leb (at + 4) (length s)) where
+    pub num_short : x ≡ false → refused 5 (length s) ≡ told (num_at s at)
+    unfolding told num_at
+    num_short k = simp (← h, k)
 
-  pub num_in : at + 4 ≤ length s → Next (at + 4) ≡ told (num_at s at)
-  unfolding told num_at
-  num_in h = simp (le-leb _ _ h)
+    pub num_in : x ≡ true → ok (at + 4) ≡ told (num_at s at)
+    unfolding told num_at
+    num_in k = simp (← h, k)
 
-  pub var_short : (v : ℕ) → length s ≤ at → Refused 5 (length s) ≡ told (var_at v s at)
+  pub var_short : (v : ℕ) → length s ≤ at → refused 5 (length s) ≡ told (var_at v s at)
   unfolding told var_at
   var_short v h = simp (le-ltb _ _ h)
 
-  pub var_in : (v : ℕ) → at < length s → get_or s at 0 < v → Next (at + 1) ≡ told (var_at v s at)
+  pub var_in : (v : ℕ) → at < length s → get_or s at 0 < v → ok (at + 1) ≡ told (var_at v s at)
   unfolding told var_at
   var_in v h k = simp (lt-ltb _ _ h, lt-ltb _ _ k)
 
-  pub var_out : (v : ℕ) → at < length s → v ≤ get_or s at 0 → Refused 8 at ≡ told (var_at v s at)
+  pub var_out : (v : ℕ) → at < length s → v ≤ get_or s at 0 → refused 8 at ≡ told (var_at v s at)
   unfolding told var_at
   var_out v h k = simp (lt-ltb _ _ h, le-ltb _ _ k)
 
 -- ---- what is told of an expression with a code: that of its fields and parts in turn, and of the last as of the whole
 module _ (d v n : ℕ) (s : List ℕ) (at : ℕ) where
-  abbrev pub E : ℕ → ℕ → ℕ → Got
+  abbrev pub E : ℕ → ℕ → ℕ → Out ℕ
   E v n p = told (exp_at d v n s p)
 
-  abbrev pub With : ℕ → Got
+  abbrev pub With : ℕ → Out ℕ
   With b = told (exp_as (code_of b) (λ v n p. exp_at d v n s p) v n s at)
 
-  pub unit_with : Next (at + 1) ≡ With 1
+  pub unit_with : ok (at + 1) ≡ With 1
   unfolding told exp_as code_of
   unit_with = refl
 
@@ -110,11 +116,11 @@ module _ (d v n : ℕ) (s : List ℕ) (at : ℕ) where
   unfolding exp_as code_of
   cell_with = sym (told_then _ _ _ (λ k p. told_then _ _ _ (λ t q. told_as (exp_at d v n s q) (cell at k t))))
 
-  pub read_with : E v n (at + 1) ≡ With 7
+  read_with : E v n (at + 1) ≡ With 7
   unfolding exp_as code_of
   read_with = sym (told_as _ _)
 
-  pub fork_with : E v n (at + 1) ≡ With 9
+  fork_with : E v n (at + 1) ≡ With 9
   unfolding exp_as code_of
   fork_with = sym (told_as _ _)
 
@@ -122,7 +128,7 @@ module _ (d v n : ℕ) (s : List ℕ) (at : ℕ) where
   unfolding exp_as code_of
   lock_with h = rw (lt-ltb n 32 h) (sym (told_as _ _))
 
-  pub lock_over : 32 ≤ n → Refused 7 at ≡ With 10
+  pub lock_over : 32 ≤ n → refused 7 at ≡ With 10
   unfolding told exp_as code_of
   lock_over h = rw (le-ltb n 32 h) refl
 
@@ -131,29 +137,36 @@ module _ (d v n : ℕ) (s : List ℕ) (at : ℕ) where
   if_with = sym (told_then _ _ _ (λ t p. told_then _ _ _ (λ a q. told_then _ _ _ (λ b r. told_as (exp_at d v n s r) (if_not0 at t a b)))))
 
   -- both parts of an expression that has two, the second under w variables
-  abbrev Both : ℕ → Got
+  abbrev Both : ℕ → Out ℕ
   Both w = on (E v n (at + 1)) (λ q. E w n q)
 
   both : (f : Exp → Exp → Exp) (w : ℕ) → Both w ≡ told (exp_at d v n s (at + 1) then λ a p. exp_at d w n s p then λ b q. got (f a b) q)
   both f w = sym (told_then _ _ _ (λ a q. told_as (exp_at d w n s q) (f a)))
 
-  pub two_with : (b : ℕ) → 0 < b → b ≤ 15 → parts b ≡ 2 → Both (v + binds2 b) ≡ With b
+  pub one_with : (b : ExpCode) → (b ≡ code.Read) ⊎ (b ≡ code.Fork) → E v n (at + 1) ≡ With (exp_byte b)
+  one_with b (inl e) = rw e read_with
+  one_with b (inr e) = rw e fork_with
+
+  pub two_with : (b : ExpCode) → parts (exp_byte b) ≡ 2 → Both (v + binds2 (exp_byte b)) ≡ With (exp_byte b)
   unfolding exp_as code_of parts binds2
-  two_with b z u =
-      by_code (λ b. parts b ≡ 2 → Both (v + binds2 b) ≡ With b) b (λ e. omega arith) u
-      (λ e. absurd (omega arith)) (λ e. absurd (omega arith)) (λ e. absurd (omega arith)) (λ e. absurd (omega arith))
-      (λ e. simp add-zero (both (app at) v))
-      (λ e. absurd (omega arith)) (λ e. absurd (omega arith))
-      (λ e. simp add-zero (both (write at) v))
-      (λ e. absurd (omega arith)) (λ e. absurd (omega arith))
-      (λ e. simp add-zero (both (sync at) v))
-      (λ e. both (let_in at) (v + 1))
-      (λ e. simp add-zero (both (seq at) v))
-      (λ e. simp add-zero (both (add at) v))
-      (λ e. absurd (omega arith))
+  two_with code.Unit e = absurd (omega arith)
+  two_with code.Number e = absurd (omega arith)
+  two_with code.Variable e = absurd (omega arith)
+  two_with code.Function e = absurd (omega arith)
+  two_with code.Apply e = simp add-zero (both (app at) v)
+  two_with code.NewCell e = absurd (omega arith)
+  two_with code.Read e = absurd (omega arith)
+  two_with code.Write e = simp add-zero (both (write at) v)
+  two_with code.Fork e = absurd (omega arith)
+  two_with code.NewLock e = absurd (omega arith)
+  two_with code.Section e = simp add-zero (both (sync at) v)
+  two_with code.Let e = both (let_in at) (v + 1)
+  two_with code.Then e = simp add-zero (both (seq at) v)
+  two_with code.Add e = simp add-zero (both (add at) v)
+  two_with code.If e = absurd (omega arith)
 
 module _ (v n : ℕ) (s : List ℕ) (at : ℕ) where
-  pub exp_ended : (d : ℕ) → length s ≤ at → Refused 5 (length s) ≡ told (exp_at d v n s at)
+  pub exp_ended : (d : ℕ) → length s ≤ at → refused 5 (length s) ≡ told (exp_at d v n s at)
   unfolding told exp_at code_at too_deep exp_as
   exp_ended zero h = simp (le-ltb _ _ h)
   exp_ended (suc d) h = simp (le-ltb _ _ h)
@@ -163,22 +176,22 @@ module _ (v n : ℕ) (s : List ℕ) (at : ℕ) where
     unfolding code_at
     code_in = simp (lt-ltb _ _ h)
 
-    other_told : (d : ℕ) → code_of (get_or s at 0) ≡ other → Refused 4 at ≡ told (exp_at d v n s at)
+    other_told : (d : ℕ) → code_of (get_or s at 0) ≡ other → refused 4 at ≡ told (exp_at d v n s at)
     unfolding told exp_at too_deep exp_as
     other_told zero e = simp (code_in, e)
     other_told (suc d) e = simp (code_in, e)
 
-    pub exp_zero : (d : ℕ) → get_or s at 0 ≡ 0 → Refused 4 at ≡ told (exp_at d v n s at)
+    pub exp_zero : (d : ℕ) → get_or s at 0 ≡ 0 → refused 4 at ≡ told (exp_at d v n s at)
     exp_zero d e = other_told d (unfold code_of in rw e)
 
-    pub exp_high : (d : ℕ) → 15 < get_or s at 0 → Refused 4 at ≡ told (exp_at d v n s at)
+    pub exp_high : (d : ℕ) → 15 < get_or s at 0 → refused 4 at ≡ told (exp_at d v n s at)
     exp_high d k = other_told d (code_none (get_or s at 0) k)
 
     deep : (b : ℕ) → (b ≡ 0 → ⊥) → b ≤ 15 → wrong 7 at ≡ too_deep (code_of b) s at
     unfolding code_of too_deep
     deep b z u = by_code (λ b. wrong 7 at ≡ too_deep (code_of b) s at) b z u refl refl refl refl refl refl refl refl refl refl refl refl refl refl refl
 
-    pub exp_deep : (d : ℕ) → d ≡ 0 → (get_or s at 0 ≡ 0 → ⊥) → get_or s at 0 ≤ 15 → Refused 7 at ≡ told (exp_at d v n s at)
+    pub exp_deep : (d : ℕ) → d ≡ 0 → (get_or s at 0 ≡ 0 → ⊥) → get_or s at 0 ≤ 15 → refused 7 at ≡ told (exp_at d v n s at)
     unfolding told exp_at
     exp_deep d e z u = rw (e, code_in) (ap told (deep (get_or s at 0) z u))
 
@@ -187,19 +200,51 @@ module _ (v n : ℕ) (s : List ℕ) (at : ℕ) where
     exp_with zero b f e = absurd (omega arith)
     exp_with (suc d) b f e = simp (sub-one (suc d), code_in, e)
 
+pub parts_two : (b : ExpCode) → (b ≡ code.Apply) ⊎ (b ≡ code.Write) ⊎ (b ≡ code.Section) ⊎ (b ≡ code.Let) ⊎ (b ≡ code.Then) ⊎ (b ≡ code.Add) → parts (exp_byte b) ≡ 2
+unfolding parts
+parts_two b (inl e) = rw e
+parts_two b (inr (inl e)) = rw e
+parts_two b (inr (inr (inl e))) = rw e
+parts_two b (inr (inr (inr (inl e)))) = rw e
+parts_two b (inr (inr (inr (inr (inl e))))) = rw e
+parts_two b (inr (inr (inr (inr (inr e))))) = rw e
+
+-- a let binds a variable for its second part, and nothing else does
+pub let_binds : (b : ExpCode) → b ≡ code.Let → binds2 (exp_byte b) ≡ 1
+unfolding binds2
+let_binds b e = rw e
+
+pub other_binds : (b : ExpCode) → (b ≡ code.Let → ⊥) → binds2 (exp_byte b) ≡ 0
+unfolding binds2
+other_binds code.Unit f = refl
+other_binds code.Number f = refl
+other_binds code.Variable f = refl
+other_binds code.Function f = refl
+other_binds code.Apply f = refl
+other_binds code.NewCell f = refl
+other_binds code.Read f = refl
+other_binds code.Write f = refl
+other_binds code.Fork f = refl
+other_binds code.NewLock f = refl
+other_binds code.Section f = refl
+other_binds code.Let f = absurd (f refl)
+other_binds code.Then f = refl
+other_binds code.Add f = refl
+other_binds code.If f = refl
+
 -- a new lock's fields are there only below 32 locks
-pub lock_room : (b v n : ℕ) (s : List ℕ) (at : ℕ) {r : Got} {p y : ℕ} → r ≡ fields b v n s at → r ≡ Next p → y ≡ locks1 b → n ≤ 32 → n + y ≤ 32
+pub lock_room : (b v n : ℕ) (s : List ℕ) (at : ℕ) {r : Out ℕ} {p y : ℕ} → r ≡ fields b v n s at → r ≡ ok p → y ≡ locks1 b → n ≤ 32 → n + y ≤ 32
 unfolding locks1 fields
 lock_room b v n s at {r} {p} {y} e f g h = go (ℕ_discrete b 10)
   where
-    at_10 : (t : Bool) → ltb n 32 ≡ t → Next p ≡ pick t (Next (at + 1)) (Refused 7 at) → n < 32
+    at_10 : (t : Bool) → ltb n 32 ≡ t → ok p ≡ pick t (ok (at + 1)) (refused 7 at) → n < 32
     at_10 true l q = ltb-true n 32 l
     at_10 false l q = let z : ◌≡◌ {A = ℕ} 0 1 = cc in absurd (omega arith)
 
     go : Dec (b ≡ 10) → n + y ≤ 32
     go (yes z) =
         let w : y ≡ 1 = rw z at g in
-        let q : Next p ≡ fields 10 v n s at = sym f ∙ (rw z at e) in
+        let q : ok p ≡ fields 10 v n s at = sym f ∙ (rw z at e) in
         let l : n < 32 = at_10 (ltb n 32) refl q in
         omega arith
     go (no z) = let w : y ≡ 0 = rw (ne_eqb b 10 z) at g in omega arith

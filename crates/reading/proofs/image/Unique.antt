@@ -2,8 +2,10 @@
 use mathlib.Core.Path.{◌≡◌, sym, ◌∙◌}
 use mathlib.Core.List.{List}
 use Prim.Native.Nat.{ℕ}
-use Rattle.types.specs.declared.stated.Got.{Got}
+use Rattle.std.specs.Prelude.{Result}
+use Rattle.answers.specs.declared.Refusal.{Refusal}
+use Rattle.answers.specs.Said.{said_one}
 use Rattle.reading.specs.Contract.{ImageRead}
 
-pub image_unique : {s : List ℕ} {r r' : Got} → ImageRead s r → ImageRead s r' → r ≡ r'
-image_unique a b = a.said ∙ sym b.said
+pub image_unique : {s : List ℕ} {r r' : Result ℕ Refusal} → ImageRead s r → ImageRead s r' → r ≡ r'
+image_unique {r = r} {r' = r'} a b = said_one r r' (a.said ∙ sym b.said)

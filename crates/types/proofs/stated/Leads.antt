@@ -88,14 +88,13 @@ module _ (s : List ℕ) (i n d : ℕ) where
 
         -- a Lock or a Ref: its name
         module _ {r : Result ℕ Refusal} (f : NameRead s (i + 1) n r) where
-          pub lock_refused : {x : Refusal} → b ≡ code.Lock → r ≡ Err x → TypeLed s i n d (Err x)
-          lock_refused e g = led_wrong (sym (ap said g) ∙ name_back _ _ _ f ∙ ty_lock n s i h d z (sym k ∙ ap type_byte e))
+          pub name_refused : {x : Refusal} → (b ≡ code.Lock) ⊎ (b ≡ code.Ref) → r ≡ Err x → TypeLed s i n d (Err x)
+          name_refused (inl e) g = led_wrong (sym (ap said g) ∙ name_back _ _ _ f ∙ ty_lock n s i h d z (sym k ∙ ap type_byte e))
+          name_refused (inr e) g = led_wrong (ref_refused n s i h d z (sym k ∙ ap type_byte e) (name_back _ _ _ f) (ap said g))
 
           pub lock_whole : {p : ℕ} → b ≡ code.Lock → r ≡ Ok p → TypeLed s i n d (Ok (Whole p))
           lock_whole e g = led_whole (sym (ap said g) ∙ name_back _ _ _ f ∙ ty_lock n s i h d z (sym k ∙ ap type_byte e))
 
-          pub content_refused : {x : Refusal} → b ≡ code.Ref → r ≡ Err x → TypeLed s i n d (Err x)
-          content_refused e g = led_wrong (ref_refused n s i h d z (sym k ∙ ap type_byte e) (name_back _ _ _ f) (ap said g))
-
-          pub content_last : {p : ℕ} → b ≡ code.Ref → r ≡ Ok p → TypeLed s i n d (Ok (Last p))
-          content_last e g = led_last (λ o l. ref_next n s i h d z (sym k ∙ ap type_byte e) (name_back _ _ _ f) (ap said g) l) z
+          pub content_last : {p : ℕ} → (b ≡ code.Lock) ⊎ (b ≡ code.Ref) → (b ≡ code.Lock → ⊥) → r ≡ Ok p → TypeLed s i n d (Ok (Last p))
+          content_last (inl e) l g = absurd (l e)
+          content_last (inr e) l g = led_last (λ o m. ref_next n s i h d z (sym k ∙ ap type_byte e) (name_back _ _ _ f) (ap said g) m) z

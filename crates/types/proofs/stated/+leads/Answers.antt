@@ -2,7 +2,7 @@
 -- which case of `ty_at` holds; of the last part the same is told as of the whole, which is the loop's invariant.
 use Rattle.std.proofs.Common.{rules}
 use Rattle.std.specs.Prelude.{◌≡◌, Err}
-use Rattle.types.proofs.stated.Leads.{lead_ended, lead_other, lead_deep, lead_leaf, argument_refused, set_refused, result_last, lock_refused, lock_whole, content_refused, content_last}
+use Rattle.types.proofs.stated.Leads.{lead_ended, lead_other, lead_deep, lead_leaf, argument_refused, set_refused, result_last, name_refused, lock_whole, content_last}
 use Rattle.types.proofs.stated.+leads.Goals as goal
 
 pub read_lead-returns-then-s-at : goal.read_lead-returns-then-s-at
@@ -14,15 +14,17 @@ read_lead-returns-in_default t c = lead_other _ _ _ _ c.if-s-at.false c.in_defau
 pub read_lead-returns-then-left-eq0 : goal.read_lead-returns-then-left-eq0
 read_lead-returns-then-left-eq0 t c = lead_deep _ _ _ _ c.if-s-at.false _ c.in-Ok.ensures c.if-left-eq0.true
 
-pub read_lead-returns-in_err-read_name-in-Lock : goal.read_lead-returns-in_err-read_name-in-Lock
-read_lead-returns-in_err-read_name-in-Lock t c =
-    let q : c.from_residual.result ≡ Err c.in_err-read_name-in-Lock.field-0.0 = search rules in
-    rw q (lock_refused _ _ _ _ c.if-s-at.false c.in-Ok.ensures c.if-left-eq0.false c.read_name.ensures c.in-Lock.is (c.in_err-read_name-in-Lock.was))
+pub read_lead-returns-in_err-p-in-Lock : goal.read_lead-returns-in_err-p-in-Lock
+read_lead-returns-in_err-p-in-Lock t c =
+    let q : c.from_residual.result ≡ Err c.in_err-p-in-Lock.field-0.0 = search rules in
+    rw q (name_refused _ _ _ _ c.if-s-at.false c.in-Ok.ensures c.if-left-eq0.false c.read_name.ensures c.in-Lock.is c.in_err-p-in-Lock.was)
 
-pub read_lead-returns-in_err-read_name-in-Ref : goal.read_lead-returns-in_err-read_name-in-Ref
-read_lead-returns-in_err-read_name-in-Ref t c =
-    let q : c.from_residual-in_err-read_name-in-Ref.result ≡ Err c.in_err-read_name-in-Ref.field-0.0 = search rules in
-    rw q (content_refused _ _ _ _ c.if-s-at.false c.in-Ok.ensures c.if-left-eq0.false c.read_name-in-Ref.ensures c.in-Ref.is (c.in_err-read_name-in-Ref.was))
+pub read_lead-returns-in-Lock-code : goal.read_lead-returns-in-Lock-code
+read_lead-returns-in-Lock-code t c = lock_whole _ _ _ _ c.if-s-at.false c.in-Ok.ensures c.if-left-eq0.false c.read_name.ensures c.in-Lock-code.is c.in_ok-p-in-Lock.was
+
+pub read_lead-returns-in_default-code : goal.read_lead-returns-in_default-code
+read_lead-returns-in_default-code t c =
+    content_last _ _ _ _ c.if-s-at.false c.in-Ok.ensures c.if-left-eq0.false c.read_name.ensures c.in-Lock.is c.in_default-code.not-Lock c.in_ok-p-in-Lock.was
 
 pub read_lead-returns-in_err-p-in-Function : goal.read_lead-returns-in_err-p-in-Function
 read_lead-returns-in_err-p-in-Function t c =
@@ -36,12 +38,6 @@ read_lead-returns-in_err-read_set-in-Function t c =
 
 pub read_lead-returns-in-Unit : goal.read_lead-returns-in-Unit
 read_lead-returns-in-Unit t c = lead_leaf _ _ _ _ c.if-s-at.false c.in-Ok.ensures c.if-left-eq0.false c.in-Unit.is
-
-pub read_lead-returns-in_ok-read_name-in-Lock : goal.read_lead-returns-in_ok-read_name-in-Lock
-read_lead-returns-in_ok-read_name-in-Lock t c = lock_whole _ _ _ _ c.if-s-at.false c.in-Ok.ensures c.if-left-eq0.false c.read_name.ensures c.in-Lock.is (c.in_ok-read_name-in-Lock.was)
-
-pub read_lead-returns-in_ok-read_name-in-Ref : goal.read_lead-returns-in_ok-read_name-in-Ref
-read_lead-returns-in_ok-read_name-in-Ref t c = content_last _ _ _ _ c.if-s-at.false c.in-Ok.ensures c.if-left-eq0.false c.read_name-in-Ref.ensures c.in-Ref.is (c.in_ok-read_name-in-Ref.was)
 
 pub read_lead-returns-in_ok-read_set-in-Function : goal.read_lead-returns-in_ok-read_set-in-Function
 read_lead-returns-in_ok-read_set-in-Function t c =
