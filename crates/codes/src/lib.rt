@@ -10,11 +10,11 @@ pub struct NoSuchCode;
 
 #[derive(Clone, Copy, Debug, PartialEq, Eq)]
 pub enum TypeCode {
-    Unit,
-    Int,
-    Lock,
-    Ref,
-    Function,
+    Unit = 0x20,
+    Int = 0x21,
+    Lock = 0x22,
+    Ref = 0x23,
+    Function = 0x24,
 }
 
 impl TryFrom<u8> for TypeCode {

@@ -1,17 +1,22 @@
 -- The work buffer from one step to the next.
-use mathlib.Core.Path.{◌≡◌, ap, ◌∙◌, subst}
+use mathlib.Core.Path.{◌≡◌, ap, sym, ◌∙◌, subst}
 use mathlib.Core.List.{List, [], ◌∷◌}
 use mathlib.Core.Logic.{inl}
 use Prim.Native.Nat.{ℕ, ◌+◌, ◌-◌, ◌*◌, ◌^◌, ◌<◌, ◌≤◌}
 use native.Mathlib.Omega.{arith}
 use lib.ListN.{length, get_or}
+use Rattle.std.specs.Prelude.{Ok, Err}
+use Rattle.answers.specs.Said.{said}
+use Rattle.answers.specs.Numbers.{number, place}
+use Rattle.answers.specs.declared.Refusal.{Refusal}
 use Rattle.paper.specs.Types.{Ty}
+use Rattle.paper.specs.Verdict as verdict
 use Rattle.judging.specs.Holds.{Kept}
 use Rattle.judging.specs.Copies.{Movable, Moved}
 use Rattle.judging.proofs.Held.{holds_same}
 use Rattle.judging.specs.Rules.{Judged, typed, refused}
-use Rattle.judging.specs.declared.work.Answer.{Answer}
-use Rattle.judging.specs.declared.work.Answer.TheVariants.{Typed, Refused}
+use Rattle.judging.specs.Answer.{Answer}
+use Rattle.judging.specs.declared.work.Typed.{Typed}
 use Rattle.judging.specs.Work.{slot, Env, Frame, InSlot}
 use Rattle.judging.specs.Contract.{Out, EnvChange}
 
@@ -64,19 +69,27 @@ module _ {w w' : List ℕ} (v left : ℕ) where
   frame_slot a h = record { long = a.long; vars = λ i g. a.low i (omega arith); kept = λ i g k. a.low i k; far = λ i g. a.high i (omega arith) }
 
 module _ (w : List ℕ) (left n next : ℕ) where
-  pub out_refused : (j : Judged) {r : Answer} {k p : ℕ} → Out w left n next j r → r ≡ Refused k p → j ≡ refused k p
+  pub out_refused : (j : Judged) {r : Answer} {e : Refusal} → Out w left n next j r → r ≡ Err e → j ≡ refused (number e) (place e)
   out_refused (typed t m) h f = let z : ◌≡◌ {A = ℕ} 0 1 = cc h.0 in absurd (omega arith)
-  out_refused (refused i q) {r} {k} {p} e f = let z : i ≡ k = cc in let y : q ≡ p = cc in cc
+  out_refused (refused i q) {r} {e} h f =
+      let g : ◌≡◌ {A = verdict.Out Typed} (verdict.refused (number e) (place e)) (verdict.refused i q) = ap said (sym f) ∙ h in
+      let z : number e ≡ i = cc in
+      let y : place e ≡ q = cc in
+      cc
 
-  pub record Gave (j : Judged) (p m : ℕ) : Type 0 where
+  pub record Gave (j : Judged) (p : Typed) : Type 0 where
     pub type : Ty
-    pub is : j ≡ typed type m
-    pub next_is : next ≡ p
+    pub is : j ≡ typed type p.need
+    pub next_is : next ≡ p.end
     pub slotted : InSlot w left n type
-    pub small : m < 2 ^ n
+    pub small : p.need < 2 ^ n
 
-  pub out_typed : (j : Judged) {r : Answer} {p m : ℕ} → Out w left n next j r → r ≡ Typed p m → Gave j p m
-  out_typed (typed t i) {r} {p} {m} h f =
-      let z : i ≡ m = cc h.0 in
-      record { type = t; is = ap (typed t) z; next_is = cc h.0; slotted = h.1; small = subst (λ (k : ℕ). k < 2 ^ n) z h.2 }
-  out_typed (refused i q) e f = let z : ◌≡◌ {A = ℕ} 0 1 = cc in absurd (omega arith)
+  pub out_typed : (j : Judged) {r : Answer} {p : Typed} → Out w left n next j r → r ≡ Ok p → Gave j p
+  out_typed (typed t i) {r} {p} h f =
+      let g : ◌≡◌ {A = Typed} (record { end = next; need = i }) p = cc h.0 in
+      let z : i ≡ p.need = ap (λ (q : Typed). q.need) g in
+      record { type = t; is = ap (typed t) z; next_is = ap (λ (q : Typed). q.end) g; slotted = h.1; small = subst (λ (k : ℕ). k < 2 ^ n) z h.2 }
+  out_typed (refused i q) {r} {p} h f =
+      let g : ◌≡◌ {A = verdict.Out Typed} (verdict.ok p) (verdict.refused i q) = ap said (sym f) ∙ h in
+      let z : ◌≡◌ {A = ℕ} 0 1 = cc in
+      absurd (omega arith)

@@ -6,14 +6,14 @@ use lib.Pow.{pow_mono, pow-lt}
 use lib.Bits.{bit_or, or_lt}
 use Rattle.paper.specs.Sets.{union, less, single}
 use Rattle.judging.proofs.SetBits.{union_or, less_le}
-use Rattle.judging.specs.declared.work.Answer.TheVariants.{Typed}
+use Rattle.judging.specs.Answer.{gives}
 
 small : (n a : ℕ) → n ≤ 32 → a < 2 ^ n → a < 2 ^ 32
 small n a l h = lt_of_lt_of_le h (pow_mono l)
 
 -- the answer x of the code is the need y of the rules
-pub gone : {next : ℕ} (n x y : ℕ) (P : Type 0) → y ≡ x → x < 2 ^ n → P → (Typed next x ≡ Typed next y) × P × (y < 2 ^ n)
-gone {next} n x y P e h p = (ap (Typed next) (sym e), p, subst (λ (z : ℕ). z < 2 ^ n) (sym e) h)
+pub gone : {next : ℕ} (n x y : ℕ) (P : Type 0) → y ≡ x → x < 2 ^ n → P → (gives next x ≡ gives next y) × P × (y < 2 ^ n)
+gone {next} n x y P e h p = (ap (gives next) (sym e), p, subst (λ (z : ℕ). z < 2 ^ n) (sym e) h)
 
 module _ (n a b : ℕ) (l : n ≤ 32) (h : a < 2 ^ n) (k : b < 2 ^ n) where
   pub two_needs : union a b ≡ bit_or a b

@@ -125,8 +125,10 @@ kept_put s at m =
     (kept_then (kept_wider (kept_set _ (at + 2) (m / 256 % 256)) at (at + 4) (omega arith) (omega arith))
     (kept_wider (kept_set _ (at + 3) (m % 256)) at (at + 4) (omega arith) (omega arith))))
 
-pub four_put : (s : List ℕ) (at m : ℕ) → at + 4 ≤ length s → m < 4294967296 → Four (put s at m) at m
-four_put s at m h b =
+-- its four bytes
+pub put_bytes : (s : List ℕ) (at m : ℕ) → at + 4 ≤ length s
+    → (get_or (put s at m) at 0 ≡ m / 16777216) × (get_or (put s at m) (at + 1) 0 ≡ m / 65536 % 256) × (get_or (put s at m) (at + 2) 0 ≡ m / 256 % 256) × (get_or (put s at m) (at + 3) 0 ≡ m % 256)
+put_bytes s at m h =
     let s1 = set s at (m / 16777216) in
     let s2 = set s1 (at + 1) (m / 65536 % 256) in
     let s3 = set s2 (at + 2) (m / 256 % 256) in
@@ -141,7 +143,10 @@ four_put s at m h b =
     let b2 : get_or s4 (at + 2) 0 ≡ m / 256 % 256 =
     get_or-set_other s3 (at + 3) (at + 2) _ 0 (λ e. omega arith) ∙ get_or-set_same s2 (at + 2) _ 0 (omega arith) in
     let b3 : get_or s4 (at + 3) 0 ≡ m % 256 = get_or-set_same s3 (at + 3) _ 0 (omega arith) in
-    (omega (arith, (kept_put s at m).long), rw (b0, b1, b2, b3) (whole m))
+    (b0, b1, b2, b3)
+
+pub four_put : (s : List ℕ) (at m : ℕ) → at + 4 ≤ length s → m < 4294967296 → Four (put s at m) at m
+four_put s at m h b = let p = put_bytes s at m h in (omega (arith, (kept_put s at m).long), rw (p.0, p.1, p.2, p.3) (whole m))
   where
     whole : (m : ℕ) → ((m / 16777216 * 256 + m / 65536 % 256) * 256 + m / 256 % 256) * 256 + m % 256 ≡ m
     whole m = omega arith

@@ -7,4 +7,5 @@ pub mod Node
 pub mod Walked
 pub mod Agree
 pub mod Gone
+pub mod Refused
 pub mod Buffer

@@ -12,7 +12,7 @@ use lib.Dec.{ltb}
 use borrow.Author.Tests.{le-ltb, lt-ltb, ne_eqb}
 use Rattle.paper.specs.Reading.{Read, got, wrong}
 use Rattle.types.specs.Stated.{◌then◌, pick, name_at, set_at, stated_at}
-use Rattle.types.specs.declared.stated.Got.TheVariants.{Next}
+use Rattle.paper.specs.Verdict.{ok}
 use Rattle.types.specs.Told.{told}
 use Rattle.reading.specs.Placed as e
 use Rattle.reading.specs.Placed.{Exp, place_of}
@@ -40,7 +40,7 @@ var_got v s at k p = go (dec_le (suc at) (length s)) (dec_le (suc (get_or s at 0
         let x : get_or s at 0 ≡ k = cc in
         ((l, x), omega arith)
 
-told_got : {A : Type 0} (r : Read A) (a : A) (p : ℕ) → r ≡ got a p → told r ≡ Next p
+told_got : {A : Type 0} (r : Read A) (a : A) (p : ℕ) → r ≡ got a p → told r ≡ ok p
 unfolding told
 told_got r a p e = rw e
 
@@ -79,7 +79,7 @@ Facts v n s (e.if_not0 p t a b c) = (q : ℕ) × Stated n s (p + 1) t q
 
 pub record Node (d v n : ℕ) (s : List ℕ) (at b : ℕ) (x : Exp) (next : ℕ) : Type 0 where
   pub start : ℕ
-  pub own : fields b v n s at ≡ Next start
+  pub own : fields b v n s at ≡ ok start
   pub how_many : parts b ≡ count (parts_of x)
   pub place : place_of x ≡ at
   pub coded : code_num x ≡ b

@@ -1,9 +1,9 @@
--- The paper's sets, bit by bit over 32 names, are what the code's `|`, `&` and `^` compute on numbers below 2^32.
+-- The paper's sets, bit by bit over 32 names, are what the code's `|`, `&` and `!` compute on numbers below 2^32.
 use mathlib.Core.Path.{◌≡◌, refl, sym, ap, ap₂, ◌∙◌}
 use mathlib.Core.Bool.{true, false}
-use Prim.Native.Nat.{ℕ, zero, suc, ◌+◌, ◌-◌, ◌*◌, ◌/◌, ◌%◌, ◌^◌, ◌≤◌, ◌<◌, max}
+use Prim.Native.Nat.{ℕ, zero, suc, ◌+◌, ◌-◌, ◌*◌, ◌/◌, ◌%◌, ◌^◌, ◌≤◌, ◌<◌, min, max}
 use native.Mathlib.Omega.{arith}
-use lib.Bits.{bit_and, bit_or, bit_xor, differ, or_step, xor_step}
+use lib.Bits.{bit_and, bit_or, and_step, or_step}
 use borrow.Author.Tests.{eq-eqb, ne_eqb}
 use Rattle.paper.specs.Sets.{Set, has, bits, union, less}
 use Rattle.types.proofs.subtype.SetBits.{sub_bits}
@@ -17,29 +17,20 @@ pub union_or : (a b : Set) → a < 2 ^ 32 → b < 2 ^ 32 → union a b ≡ bit_o
 unfolding union
 union_or a b h k = or_bits 32 a b h k
 
-digit : (x y : ℕ) → x < 2 → y < 2 → differ (max x y) y ≡ x - y
-digit zero zero h k = refl
-digit zero (suc zero) h k = refl
-digit (suc zero) zero h k = refl
-digit (suc zero) (suc zero) h k = refl
-digit zero (suc (suc y)) h k = absurd (omega arith)
-digit (suc zero) (suc (suc y)) h k = absurd (omega arith)
-digit (suc (suc x)) y h k = absurd (omega arith)
-
-xor_bits : (n a b : ℕ) → a < 2 ^ n → b < 2 ^ n → bits (λ x y. x - y) n a b ≡ bit_xor (bit_or a b) b
+without_bits : (n a b : ℕ) → a < 2 ^ n → b < 2 ^ n → bits (λ x y. x - y) n a b ≡ bit_and a (2 ^ n - 1 - b)
 unfolding bits
-xor_bits zero a b h k = let x : a ≡ 0 = omega arith in let y : b ≡ 0 = omega arith in rw (x, y)
-xor_bits (suc n) a b h k =
-    let o = or_step a b in
-    let m : max (a % 2) (b % 2) < 2 = omega arith in
-    let hi : bit_or a b / 2 ≡ bit_or (a / 2) (b / 2) = omega arith in
-    let lo : bit_or a b % 2 ≡ max (a % 2) (b % 2) = omega arith in
-    ap₂ (λ z w. z * 2 + w) (xor_bits n (a / 2) (b / 2) (omega arith) (omega arith)) (sym (digit (a % 2) (b % 2) (omega arith) (omega arith)))
-    ∙ sym (xor_step (bit_or a b) b ∙ ap₂ (λ z w. bit_xor z (b / 2) * 2 + differ w (b % 2)) hi lo)
+without_bits zero a b h k = let x : a ≡ 0 = omega arith in rw x
+without_bits (suc n) a b h k =
+    let c = 2 ^ suc n - 1 - b in
+    let hi : c / 2 ≡ 2 ^ n - 1 - b / 2 = omega arith in
+    let lo : c % 2 ≡ 1 - b % 2 = omega arith in
+    let m : min (a % 2) (1 - b % 2) ≡ a % 2 - b % 2 = omega arith in
+    ap₂ (λ z w. z * 2 + w) (without_bits n (a / 2) (b / 2) (omega arith) (omega arith)) (sym m)
+    ∙ sym (and_step a c ∙ ap₂ (λ z w. bit_and (a / 2) z * 2 + min (a % 2) w) hi lo)
 
-pub less_xor : (a b : Set) → a < 2 ^ 32 → b < 2 ^ 32 → less a b ≡ bit_xor (bit_or a b) b
+pub less_and : (a b : Set) → a < 2 ^ 32 → b < 2 ^ 32 → less a b ≡ bit_and a (2 ^ 32 - 1 - b)
 unfolding less
-less_xor a b h k = xor_bits 32 a b h k
+less_and a b h k = without_bits 32 a b h k
 
 pub less_le : (a b : Set) → a < 2 ^ 32 → less a b ≤ a
 unfolding less

@@ -1,24 +1,27 @@
 -- What the judging functions ask and answer. They ask for an expression that was read at a place, with its variables' types in the work
 -- buffer (`Ready`); and they answer for every such reading, so that none has to be the only one.
-use Rattle.std.specs.Prelude.{ℕ, ◌+◌, ◌-◌, ◌*◌, ◌^◌, ◌<◌, ◌≤◌, ◌≡◌, Bool, cond, List, length, get_or}
+use Rattle.std.specs.Prelude.{ℕ, ◌+◌, ◌-◌, ◌*◌, ◌^◌, ◌<◌, ◌≤◌, ◌≡◌, List, length, get_or, Result}
 use Rattle.std.specs.Int.Bits.{bit_or}
 use Rattle.paper.specs.Types.{Ty}
 use Rattle.paper.specs.Reading.{got}
+use Rattle.paper.specs.Verdict as verdict
 use Rattle.judging.specs.Holds.{Kept}
-use Rattle.types.specs.declared.stated.Got.TheVariants.{Next}
+use Rattle.judging.specs.Copies.{Moved}
 use Rattle.reading.specs.Placed.{Exp, place_of}
 use Rattle.reading.specs.First.{exp_at}
 use Rattle.reading.specs.Walk.{fields, binds1, locks1, binds2}
 use Rattle.judging.specs.Rules.{Judged, typed, refused, judge}
-use Rattle.judging.specs.declared.work.Answer.{Answer}
-use Rattle.judging.specs.declared.work.Answer.TheVariants.{Typed, Refused}
+use Rattle.answers.specs.Said.{said}
+use Rattle.answers.specs.declared.Refusal.{Refusal}
+use Rattle.judging.specs.Answer.{Answer, gives, passed}
+use Rattle.judging.specs.declared.work.Typed.{Typed}
 use Rattle.judging.specs.Phases.{Parts, none, one, two, three, parts_of, env1, env2, after1, after2, after3}
 use Rattle.judging.specs.Work.{slot, Env, Frame, InSlot}
 
 -- an answer, with the type in the slot
 abbrev pub Out : List ℕ → ℕ → ℕ → ℕ → Judged → Answer → Type 0
-Out w left n next (typed t m) r = (r ≡ Typed next m) × InSlot w left n t × (m < 2 ^ n)
-Out w left n next (refused k p) r = r ≡ Refused k p
+Out w left n next (typed t m) r = (r ≡ gives next m) × InSlot w left n t × (m < 2 ^ n)
+Out w left n next (refused k p) r = said r ≡ verdict.refused k p
 
 pub record Ready (img w : List ℕ) (at v n left : ℕ) : Type 0 where
   pub x : Exp
@@ -136,6 +139,10 @@ Answers2 B part w w' left m need next r = (img : List ℕ) (at : ℕ) → Answer
 abbrev pub AnyPart2 : (ℕ → Type 0) → List ℕ → List ℕ → ℕ → ℕ → ℕ → ℕ → Answer → Type 0
 AnyPart2 B w w' left m need next r = (part : ℕ) → Answers2 B part w w' left m need next r
 
+-- the second part's type is moved to the expression's slot, and what both parts need is needed; no more than 256 bytes from the slot have changed
+abbrev pub Goes : List ℕ → List ℕ → ℕ → ℕ → ℕ → ℕ → Typed → Type 0
+Goes w w' left m need next r = Moved w w' (slot (left - 1)) (slot left) × (r ≡ record { end = next; need = bit_or m need })
+
 abbrev pub AskedIn3 : List ℕ → ℕ → List ℕ → ℕ → Type 0
 AskedIn3 img at w left = (n : ℕ) × Some3 img w at n left
 
@@ -143,15 +150,15 @@ abbrev pub AnswersIn3 : List ℕ → ℕ → ℕ → List ℕ → List ℕ → �
 AnswersIn3 img at part w w' left m need next r = (n : ℕ) → Some3 img w at n left → Third img w w' at n left part m need next r
 
 -- a test of a part, where the rule goes on: with the need so far, or to a refusal at the part
-abbrev pub Tests1 : (ℕ → Type 0) → List ℕ → List ℕ → ℕ → Bool → Type 0
-Tests1 B w w' left ok = (part need next : ℕ) → Answers1 B part w w' left need next (cond ok (Typed next need) (Refused 11 part))
+abbrev pub Tests1 : (ℕ → Type 0) → ℕ → List ℕ → List ℕ → ℕ → Result (Unit {0}) Refusal → Type 0
+Tests1 B part w w' left r = (need next : ℕ) → Answers1 B part w w' left need next (passed r next need)
 
-abbrev pub TestsIn2 : (ℕ → Type 0) → List ℕ → ℕ → List ℕ → List ℕ → ℕ → Bool → Type 0
-TestsIn2 B img at w w' left ok = (part m need next : ℕ) → AnswersIn2 B img at part w w' left m need next (cond ok (Typed next (bit_or m need)) (Refused 12 part))
+abbrev pub TestsIn2 : (ℕ → Type 0) → List ℕ → ℕ → ℕ → List ℕ → List ℕ → ℕ → Result (Unit {0}) Refusal → Type 0
+TestsIn2 B img at part w w' left r = (m need next : ℕ) → AnswersIn2 B img at part w w' left m need next (passed r next (bit_or m need))
 
 -- the place after the expression's own fields: its first part's, or the end of one without parts
 abbrev pub Starts : List ℕ → ℕ → ℕ → ℕ → ℕ → Type 0
-Starts img at v n p = fields (get_or img at 0) v n img at ≡ Next p
+Starts img at v n p = fields (get_or img at 0) v n img at ≡ verdict.ok p
 
 -- the codes whose first part has to be of a kind
 pub data Due : ℕ → ℕ → Type 0 where

@@ -1,6 +1,7 @@
 pub mod Holds
 pub mod Shift
 pub mod Copies
+pub mod Answer
 pub mod Rules
 pub mod Phases
 pub mod Work

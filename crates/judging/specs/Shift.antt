@@ -1,7 +1,5 @@
 -- Raising a type under k new locks, and lowering one from under one.
-use Rattle.std.specs.Prelude.{ℕ, ◌+◌, ◌-◌, ◌*◌, ◌/◌, ◌%◌, ◌^◌, ◌<◌, ◌≤◌, ◌≡◌, List, Bool, true, false, get_or, set}
-use Rattle.judging.specs.declared.shift.Low.{Low}
-use Rattle.judging.specs.declared.shift.Low.TheVariants.{Next, Mentions}
+use Rattle.std.specs.Prelude.{ℕ, ◌+◌, ◌-◌, ◌*◌, ◌/◌, ◌%◌, ◌^◌, ◌<◌, ◌≤◌, ◌≡◌, List, Bool, true, false, Option, Some, None, get_or, set}
 use Rattle.paper.specs.Base.{word32}
 use Rattle.paper.specs.Types.{Ty, unit, int, lock, ref, fun, ty_size, lower, mentions}
 use Rattle.types.specs.Holds.{Holds}
@@ -40,24 +38,24 @@ abbrev pub Lowerable : List ℕ → ℕ → Type 0
 Lowerable s at = (n : ℕ) × (n ≤ 32) × (t : Ty) × Holds s at t × Within n t
 
 -- the answer of lowering: the place after the type, or that it mentions the lock
-abbrev pub low : ℕ → Bool → Low
-low p true = Mentions
-low p false = Next p
+abbrev pub low : ℕ → Bool → Option ℕ
+low p true = None
+low p false = Some p
 
 -- what lowering the type at a place leaves and answers; where it is refused, only bytes of the type have changed
-pub record Lowered (s s' : List ℕ) (at : ℕ) (r : Low) (t : Ty) : Type 0 where
+pub record Lowered (s s' : List ℕ) (at : ℕ) (r : Option ℕ) (t : Ty) : Type 0 where
   pub answer : r ≡ low (at + ty_size t) (mentions t)
   pub holds : mentions t ≡ false → Holds s' at (lower t)
   pub kept : Kept s s' at (at + ty_size t)
 
-abbrev pub Lowers : List ℕ → List ℕ → ℕ → Low → Type 0
+abbrev pub Lowers : List ℕ → List ℕ → ℕ → Option ℕ → Type 0
 Lowers s s' at r = (n : ℕ) → n ≤ 32 → (t : Ty) → Holds s at t → Within n t → Lowered s s' at r t
 
 -- a set and a name, one lower, where they do not have the lock
-abbrev pub LowerSet : List ℕ → List ℕ → ℕ → Bool → Type 0
-LowerSet s s' at true = (word32 s at % 2 ≡ 0) × (s' ≡ put s at (word32 s at / 2))
-LowerSet s s' at false = (word32 s at % 2 ≡ 1) × (s' ≡ s)
+abbrev pub LowerSet : List ℕ → List ℕ → ℕ → Option (Unit {0}) → Type 0
+LowerSet s s' at (Some u) = (word32 s at % 2 ≡ 0) × (s' ≡ put s at (word32 s at / 2))
+LowerSet s s' at None = (word32 s at % 2 ≡ 1) × (s' ≡ s)
 
-abbrev pub LowerName : List ℕ → List ℕ → ℕ → Bool → Type 0
-LowerName s s' at true = (get_or s at 0 ≡ 0 → ⊥) × (s' ≡ set s at (get_or s at 0 - 1))
-LowerName s s' at false = (get_or s at 0 ≡ 0) × (s' ≡ s)
+abbrev pub LowerName : List ℕ → List ℕ → ℕ → Option (Unit {0}) → Type 0
+LowerName s s' at (Some u) = (get_or s at 0 ≡ 0 → ⊥) × (s' ≡ set s at (get_or s at 0 - 1))
+LowerName s s' at None = (get_or s at 0 ≡ 0) × (s' ≡ s)

@@ -1,7 +1,21 @@
 // The bytes of a type, from place to place; and the clearing of the work buffer.
-ghost use Rattle.std.specs.Prelude.{◌≡◌, ◌+◌, ◌≤◌, length};
+ghost use Rattle.std.specs.Prelude.{◌≡◌, ◌+◌, ◌≤◌, length, get_or};
+ghost use Rattle.codes.specs.Codes.{type_byte};
 ghost use Rattle.judging.specs.Copies.{Movable, Moved, Copied, Some, Ends, Givable, Given};
 ghost use Rattle.paper.specs.Calls.{zeroed};
+
+use codes::TypeCode;
+
+// The code of the type at `at`.
+pub(crate) fn code_at(s: &[u8], at: usize) -> TypeCode
+    requires { Some s.now at }
+    ensures { type_byte result ≡ get_or s.now at 0 }
+{
+    match TypeCode::try_from(s[at]) {
+        Ok(code) => code,
+        Err(_) => unreachable!(),
+    }
+}
 
 // The place after the type at `at`. A Function's result stands behind its argument and its set, so it is enough to count the results that
 // are still due.
@@ -13,16 +27,20 @@ pub(crate) fn skip(s: &[u8], at: usize) -> usize
     let mut due: usize = 0;
     loop {
         let code = s[p];
-        if code == 36 {
+        if code == TypeCode::Function as u8 {
             due += 1;
             p += 1;
             continue;
         }
-        if code == 35 {
+        if code == TypeCode::Ref as u8 {
             p += 2;
             continue;
         }
-        let end = if code == 34 { p + 2 } else { p + 1 };
+        let end = if code == TypeCode::Lock as u8 {
+            p + 2
+        } else {
+            p + 1
+        };
         if due == 0 {
             return end;
         }
@@ -31,22 +49,18 @@ pub(crate) fn skip(s: &[u8], at: usize) -> usize
     }
 }
 
-// The type at `from`, byte by byte to `to`: lower, or past the 256 bytes that it may have. Most types are one byte.
+// The type at `from`, moved to `to`: lower, or past the 256 bytes that it may have. Most types are one byte.
 pub(crate) fn copy(w: &mut [u8], from: usize, to: usize)
     requires { Movable w.old from to }
     ensures { Moved w.old w.new from to }
 {
     let code = w[from];
-    if code < 34 {
+    if code < TypeCode::Lock as u8 {
         w[to] = code;
         return;
     }
-    let size = skip(w, from) - from;
-    let mut i = 0;
-    while i < size {
-        w[to + i] = w[from + i];
-        i += 1;
-    }
+    let end = skip(w, from);
+    w.copy_within(from..end, to);
 }
 
 // n bytes of another buffer.
@@ -54,11 +68,7 @@ pub(crate) fn copy_in(s: &[u8], from: usize, n: usize, w: &mut [u8], to: usize)
     requires { (from + n ≤ length s.now) × (to + n ≤ length w.old) }
     ensures { Copied s.now from n w.old w.new to }
 {
-    let mut i = 0;
-    while i < n {
-        w[to + i] = s[from + i];
-        i += 1;
-    }
+    w[to..to + n].copy_from_slice(&s[from..from + n]);
 }
 
 // The type at `at` to the front of another buffer; its length.

@@ -4,15 +4,16 @@ ghost use Rattle.paper.specs.Base.{word32};
 ghost use Rattle.judging.specs.Holds.{put};
 ghost use Rattle.judging.specs.Shift.{Raisable, Raises, Lowerable, Lowers, LowerSet, LowerName};
 
+use crate::copies::code_at;
+use crate::numbers::number;
+use codes::TypeCode;
+
 // Four bytes, the highest first.
 pub(crate) fn put4(s: &mut [u8], at: usize, m: u32)
     requires { at + 4 ≤ length s.old }
     ensures { s.new ≡ put s.old at m }
 {
-    s[at] = (m / 16777216) as u8;
-    s[at + 1] = (m / 65536 % 256) as u8;
-    s[at + 2] = (m / 256 % 256) as u8;
-    s[at + 3] = (m % 256) as u8;
+    s[at..at + 4].copy_from_slice(&m.to_be_bytes());
 }
 
 // A set, k names higher.
@@ -28,7 +29,7 @@ fn raise_set(s: &mut [u8], at: usize, k: u8)
     requires { (at + 4 ≤ length s.old) × (k ≤ 32) × (word32 s.old at * 2 ^ k < 4294967296) }
     ensures { s.new ≡ put s.old at (word32 s.old at * 2 ^ k) }
 {
-    let m = crate::numbers::number(s, at);
+    let m = number(s, at);
     put4(s, at, shifted(m, k));
 }
 
@@ -37,17 +38,16 @@ pub(crate) fn raise(s: &mut [u8], at: usize, k: u8) -> usize
     requires { Raisable s.old at k }
     ensures { Raises s.old s.new at k result }
 {
-    let code = s[at];
-    match code {
-        34 => {
-            s[at + 1] = s[at + 1] + k;
+    match code_at(s, at) {
+        TypeCode::Lock => {
+            s[at + 1] += k;
             at + 2
         }
-        35 => {
-            s[at + 1] = s[at + 1] + k;
+        TypeCode::Ref => {
+            s[at + 1] += k;
             raise(s, at + 2, k)
         }
-        36 => {
+        TypeCode::Function => {
             let p = raise(s, at + 1, k);
             raise_set(s, p, k);
             raise(s, p + 4, k)
@@ -56,70 +56,51 @@ pub(crate) fn raise(s: &mut [u8], at: usize, k: u8) -> usize
     }
 }
 
-// The place after the type; or the type mentions the lock, and only its own bytes have changed.
-#[derive(Clone, Copy)]
-pub(crate) enum Low {
-    Next(usize),
-    Mentions,
-}
-
-// The set at `at`, one name lower; false, and nothing done, where it has the innermost lock.
-fn lower_set(s: &mut [u8], at: usize) -> bool
+// The set at `at`, one name lower; None, and nothing done, where it has the innermost lock.
+fn lower_set(s: &mut [u8], at: usize) -> Option<()>
     requires { at + 4 ≤ length s.old }
     ensures { LowerSet s.old s.new at result }
 {
-    let m = crate::numbers::number(s, at);
+    let m = number(s, at);
     if m % 2 == 1 {
-        return false;
+        return None;
     }
     put4(s, at, m / 2);
-    true
+    Some(())
 }
 
-// The name at `at`, one lower; false, and nothing done, where it is the innermost lock.
-fn lower_name(s: &mut [u8], at: usize) -> bool
+// The name at `at`, one lower; None, and nothing done, where it is the innermost lock.
+fn lower_name(s: &mut [u8], at: usize) -> Option<()>
     requires { at < length s.old }
     ensures { LowerName s.old s.new at result }
 {
     let a = s[at];
     if a == 0 {
-        return false;
+        return None;
     }
     s[at] = a - 1;
-    true
+    Some(())
 }
 
-// The type at `at`, one name lower, in place; the place after it.
-pub(crate) fn lower(s: &mut [u8], at: usize) -> Low
+// The type at `at`, one name lower, in place; the place after it. None where the type mentions the lock, and then only its own bytes have changed.
+pub(crate) fn lower(s: &mut [u8], at: usize) -> Option<usize>
     requires { Lowerable s.old at }
     ensures { Lowers s.old s.new at result }
 {
-    let code = s[at];
-    match code {
-        34 => {
-            if lower_name(s, at + 1) {
-                Low::Next(at + 2)
-            } else {
-                Low::Mentions
-            }
+    match code_at(s, at) {
+        TypeCode::Lock => {
+            lower_name(s, at + 1)?;
+            Some(at + 2)
         }
-        35 => {
-            if lower_name(s, at + 1) {
-                lower(s, at + 2)
-            } else {
-                Low::Mentions
-            }
+        TypeCode::Ref => {
+            lower_name(s, at + 1)?;
+            lower(s, at + 2)
         }
-        36 => match lower(s, at + 1) {
-            Low::Mentions => Low::Mentions,
-            Low::Next(p) => {
-                if lower_set(s, p) {
-                    lower(s, p + 4)
-                } else {
-                    Low::Mentions
-                }
-            }
-        },
-        _ => Low::Next(at + 1),
+        TypeCode::Function => {
+            let p = lower(s, at + 1)?;
+            lower_set(s, p)?;
+            lower(s, p + 4)
+        }
+        _ => Some(at + 1),
     }
 }

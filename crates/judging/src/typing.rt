@@ -1,7 +1,6 @@
 // The typing: a function a rule, which calls the judge on the expression's parts from left to right, with what is left of the nesting falling at
-// each call. The code is looked at once, and each rule is called from one place, so that the compiler takes it into the judge. A rule makes a
-// refusal anew: handed on as it is, a part's answer would be copied through memory. p1, p2 and p3 are the places of the parts; where a rule has more
-// than one, m and n are what the first two need.
+// each call. The code is looked at once, and each rule is called from one place, so that the compiler takes it into the judge. a, b and c are what
+// the parts come to.
 ghost use Rattle.std.specs.Prelude.{◌≡◌, get_or};
 ghost use Rattle.judging.specs.Contract.{Ready, Finds};
 
@@ -10,266 +9,245 @@ use crate::copies;
 use crate::first::{
     first_cell, first_due, first_fork, first_int, first_lam, first_lock, first_read,
 };
-use crate::second::{after_third, second_add, second_app, second_cond, second_sync, second_write};
-use crate::work::{Answer, slot_of};
+use crate::second::{
+    after_third, second_add, second_app, second_cond, second_last, second_sync, second_write,
+};
+use crate::work::Typed;
+use answers::Refusal;
+use codes::{ExpCode, TypeCode};
+use reading::scope::Scope;
 
 // The body is under the argument.
 #[cycle(rules)]
-fn function(img: &[u8], at: usize, work: &mut [u8], vars: u8, locks: u8, left: u8) -> Answer
-    requires { Ready img.now work.old at vars locks left × (get_or img.now at 0 ≡ 4) }
-    ensures { Finds img.now work.old work.new at vars locks left result }
+fn function(img: &[u8], at: usize, work: &mut [u8], scope: Scope) -> Result<Typed, Refusal>
+    requires { Ready img.now work.old at scope.vars scope.locks scope.left × (get_or img.now at 0 ≡ 4) }
+    ensures { Finds img.now work.old work.new at scope.vars scope.locks scope.left result }
 {
-    let p1 = argument(img, at, work, vars, locks, left);
-    match judge(img, p1, work, vars + 1, locks, left - 1) {
-        Answer::Refused(k, p) => Answer::Refused(k, p),
-        Answer::Typed(p2, need) => first_lam(img, at, p1, work, left, need, p2),
-    }
+    let inner = Scope {
+        vars: scope.vars + 1,
+        locks: scope.locks,
+        left: scope.left - 1,
+    };
+    let p = argument(img, at, work, scope);
+    let a = judge(img, p, work, inner)?;
+    first_lam(img, at, p, work, scope.left, a)
 }
 
-// The first part is a Function, whose code is 36.
+// The first part is a Function.
 #[cycle(rules)]
-fn apply(img: &[u8], at: usize, work: &mut [u8], vars: u8, locks: u8, left: u8) -> Answer
-    requires { Ready img.now work.old at vars locks left × (get_or img.now at 0 ≡ 5) }
-    ensures { Finds img.now work.old work.new at vars locks left result }
+fn apply(img: &[u8], at: usize, work: &mut [u8], scope: Scope) -> Result<Typed, Refusal>
+    requires { Ready img.now work.old at scope.vars scope.locks scope.left × (get_or img.now at 0 ≡ 5) }
+    ensures { Finds img.now work.old work.new at scope.vars scope.locks scope.left result }
 {
-    let p1 = at + 1;
-    match judge(img, p1, work, vars, locks, left - 1) {
-        Answer::Refused(k, p) => Answer::Refused(k, p),
-        Answer::Typed(p2, m) => {
-            if first_due(work, left, 36) {
-                match judge(img, p2, work, vars, locks, left - 1) {
-                    Answer::Refused(k, p) => Answer::Refused(k, p),
-                    Answer::Typed(p3, n) => second_app(p2, work, left, m, n, p3),
-                }
-            } else {
-                Answer::Refused(11, p1)
-            }
-        }
-    }
+    let inner = Scope {
+        vars: scope.vars,
+        locks: scope.locks,
+        left: scope.left - 1,
+    };
+    let a = judge(img, at + 1, work, inner)?;
+    first_due(at + 1, work, scope.left, TypeCode::Function)?;
+    let b = judge(img, a.end, work, inner)?;
+    second_app(work, scope.left, a, b)
 }
 
 // The content stands behind the lock name and the stated type.
 #[cycle(rules)]
-fn new_cell(img: &[u8], at: usize, work: &mut [u8], vars: u8, locks: u8, left: u8) -> Answer
-    requires { Ready img.now work.old at vars locks left × (get_or img.now at 0 ≡ 6) }
-    ensures { Finds img.now work.old work.new at vars locks left result }
+fn new_cell(img: &[u8], at: usize, work: &mut [u8], scope: Scope) -> Result<Typed, Refusal>
+    requires { Ready img.now work.old at scope.vars scope.locks scope.left × (get_or img.now at 0 ≡ 6) }
+    ensures { Finds img.now work.old work.new at scope.vars scope.locks scope.left result }
 {
-    let p1 = copies::skip(img, at + 2);
-    match judge(img, p1, work, vars, locks, left - 1) {
-        Answer::Refused(k, p) => Answer::Refused(k, p),
-        Answer::Typed(p2, need) => first_cell(img, at, p1, work, left, need, p2),
-    }
+    let inner = Scope {
+        vars: scope.vars,
+        locks: scope.locks,
+        left: scope.left - 1,
+    };
+    let p = copies::skip(img, at + 2);
+    let a = judge(img, p, work, inner)?;
+    first_cell(img, at, p, work, scope.left, a)
 }
 
 // Nothing is kept of the Ref but its content.
 #[cycle(rules)]
-fn read(img: &[u8], at: usize, work: &mut [u8], vars: u8, locks: u8, left: u8) -> Answer
-    requires { Ready img.now work.old at vars locks left × (get_or img.now at 0 ≡ 7) }
-    ensures { Finds img.now work.old work.new at vars locks left result }
+fn read(img: &[u8], at: usize, work: &mut [u8], scope: Scope) -> Result<Typed, Refusal>
+    requires { Ready img.now work.old at scope.vars scope.locks scope.left × (get_or img.now at 0 ≡ 7) }
+    ensures { Finds img.now work.old work.new at scope.vars scope.locks scope.left result }
 {
-    let p1 = at + 1;
-    match judge(img, p1, work, vars, locks, left - 1) {
-        Answer::Refused(k, p) => Answer::Refused(k, p),
-        Answer::Typed(p2, need) => first_read(p1, work, left, need, p2),
-    }
+    let inner = Scope {
+        vars: scope.vars,
+        locks: scope.locks,
+        left: scope.left - 1,
+    };
+    let a = judge(img, at + 1, work, inner)?;
+    first_read(at + 1, work, scope.left, a)
 }
 
-// The first part is a Ref, whose code is 35.
+// The first part is a Ref.
 #[cycle(rules)]
-fn write(img: &[u8], at: usize, work: &mut [u8], vars: u8, locks: u8, left: u8) -> Answer
-    requires { Ready img.now work.old at vars locks left × (get_or img.now at 0 ≡ 8) }
-    ensures { Finds img.now work.old work.new at vars locks left result }
+fn write(img: &[u8], at: usize, work: &mut [u8], scope: Scope) -> Result<Typed, Refusal>
+    requires { Ready img.now work.old at scope.vars scope.locks scope.left × (get_or img.now at 0 ≡ 8) }
+    ensures { Finds img.now work.old work.new at scope.vars scope.locks scope.left result }
 {
-    let p1 = at + 1;
-    match judge(img, p1, work, vars, locks, left - 1) {
-        Answer::Refused(k, p) => Answer::Refused(k, p),
-        Answer::Typed(p2, m) => {
-            if first_due(work, left, 35) {
-                match judge(img, p2, work, vars, locks, left - 1) {
-                    Answer::Refused(k, p) => Answer::Refused(k, p),
-                    Answer::Typed(p3, n) => second_write(p2, work, left, m, n, p3),
-                }
-            } else {
-                Answer::Refused(11, p1)
-            }
-        }
-    }
+    let inner = Scope {
+        vars: scope.vars,
+        locks: scope.locks,
+        left: scope.left - 1,
+    };
+    let a = judge(img, at + 1, work, inner)?;
+    first_due(at + 1, work, scope.left, TypeCode::Ref)?;
+    let b = judge(img, a.end, work, inner)?;
+    second_write(work, scope.left, a, b)
 }
 
 // The type of the part is of no use: a fork gives Unit.
 #[cycle(rules)]
-fn fork(img: &[u8], at: usize, work: &mut [u8], vars: u8, locks: u8, left: u8) -> Answer
-    requires { Ready img.now work.old at vars locks left × (get_or img.now at 0 ≡ 9) }
-    ensures { Finds img.now work.old work.new at vars locks left result }
+fn fork(img: &[u8], at: usize, work: &mut [u8], scope: Scope) -> Result<Typed, Refusal>
+    requires { Ready img.now work.old at scope.vars scope.locks scope.left × (get_or img.now at 0 ≡ 9) }
+    ensures { Finds img.now work.old work.new at scope.vars scope.locks scope.left result }
 {
-    let p1 = at + 1;
-    match judge(img, p1, work, vars, locks, left - 1) {
-        Answer::Refused(k, p) => Answer::Refused(k, p),
-        Answer::Typed(p2, need) => first_fork(at, work, left, need, p2),
-    }
+    let inner = Scope {
+        vars: scope.vars,
+        locks: scope.locks,
+        left: scope.left - 1,
+    };
+    let a = judge(img, at + 1, work, inner)?;
+    first_fork(at, work, scope.left, a)
 }
 
 // The body is under the new lock and under the variable that is it.
 #[cycle(rules)]
-fn new_lock(img: &[u8], at: usize, work: &mut [u8], vars: u8, locks: u8, left: u8) -> Answer
-    requires { Ready img.now work.old at vars locks left × (get_or img.now at 0 ≡ 10) }
-    ensures { Finds img.now work.old work.new at vars locks left result }
+fn new_lock(img: &[u8], at: usize, work: &mut [u8], scope: Scope) -> Result<Typed, Refusal>
+    requires { Ready img.now work.old at scope.vars scope.locks scope.left × (get_or img.now at 0 ≡ 10) }
+    ensures { Finds img.now work.old work.new at scope.vars scope.locks scope.left result }
 {
-    new_name(img, at, work, vars, locks, left);
-    let p1 = at + 1;
-    match judge(img, p1, work, vars + 1, locks + 1, left - 1) {
-        Answer::Refused(k, p) => Answer::Refused(k, p),
-        Answer::Typed(p2, need) => first_lock(at, work, left, need, p2),
-    }
+    new_name(img, at, work, scope);
+    let inner = Scope {
+        vars: scope.vars + 1,
+        locks: scope.locks + 1,
+        left: scope.left - 1,
+    };
+    let a = judge(img, at + 1, work, inner)?;
+    first_lock(at, work, scope.left, a)
 }
 
-// The first part is a Lock, whose code is 34.
+// The first part is a Lock.
 #[cycle(rules)]
-fn section(img: &[u8], at: usize, work: &mut [u8], vars: u8, locks: u8, left: u8) -> Answer
-    requires { Ready img.now work.old at vars locks left × (get_or img.now at 0 ≡ 11) }
-    ensures { Finds img.now work.old work.new at vars locks left result }
+fn section(img: &[u8], at: usize, work: &mut [u8], scope: Scope) -> Result<Typed, Refusal>
+    requires { Ready img.now work.old at scope.vars scope.locks scope.left × (get_or img.now at 0 ≡ 11) }
+    ensures { Finds img.now work.old work.new at scope.vars scope.locks scope.left result }
 {
-    let p1 = at + 1;
-    match judge(img, p1, work, vars, locks, left - 1) {
-        Answer::Refused(k, p) => Answer::Refused(k, p),
-        Answer::Typed(p2, m) => {
-            if first_due(work, left, 34) {
-                match judge(img, p2, work, vars, locks, left - 1) {
-                    Answer::Refused(k, p) => Answer::Refused(k, p),
-                    Answer::Typed(p3, n) => second_sync(work, left, m, n, p3),
-                }
-            } else {
-                Answer::Refused(11, p1)
-            }
-        }
-    }
+    let inner = Scope {
+        vars: scope.vars,
+        locks: scope.locks,
+        left: scope.left - 1,
+    };
+    let a = judge(img, at + 1, work, inner)?;
+    first_due(at + 1, work, scope.left, TypeCode::Lock)?;
+    let b = judge(img, a.end, work, inner)?;
+    Ok(second_sync(work, scope.left, a, b))
 }
 
 // The second part is under the variable that has the first one's type.
 #[cycle(rules)]
-fn let_in(img: &[u8], at: usize, work: &mut [u8], vars: u8, locks: u8, left: u8) -> Answer
-    requires { Ready img.now work.old at vars locks left × (get_or img.now at 0 ≡ 12) }
-    ensures { Finds img.now work.old work.new at vars locks left result }
+fn let_in(img: &[u8], at: usize, work: &mut [u8], scope: Scope) -> Result<Typed, Refusal>
+    requires { Ready img.now work.old at scope.vars scope.locks scope.left × (get_or img.now at 0 ≡ 12) }
+    ensures { Finds img.now work.old work.new at scope.vars scope.locks scope.left result }
 {
-    match judge(img, at + 1, work, vars, locks, left - 1) {
-        Answer::Refused(k, p) => Answer::Refused(k, p),
-        Answer::Typed(p2, m) => {
-            bind(img, at, work, vars, locks, left);
-            match judge(img, p2, work, vars + 1, locks, left - 1) {
-                Answer::Refused(k, p) => Answer::Refused(k, p),
-                Answer::Typed(p3, n) => {
-                    copies::copy(work, slot_of(left - 1), slot_of(left));
-                    Answer::Typed(p3, m | n)
-                }
-            }
-        }
-    }
+    let inner = Scope {
+        vars: scope.vars,
+        locks: scope.locks,
+        left: scope.left - 1,
+    };
+    let a = judge(img, at + 1, work, inner)?;
+    bind(img, at, work, scope);
+    let b = judge(
+        img,
+        a.end,
+        work,
+        Scope {
+            vars: scope.vars + 1,
+            locks: scope.locks,
+            left: scope.left - 1,
+        },
+    )?;
+    Ok(second_last(work, scope.left, a, b))
 }
 
 // Of the first part only the need is left.
 #[cycle(rules)]
-fn then(img: &[u8], at: usize, work: &mut [u8], vars: u8, locks: u8, left: u8) -> Answer
-    requires { Ready img.now work.old at vars locks left × (get_or img.now at 0 ≡ 13) }
-    ensures { Finds img.now work.old work.new at vars locks left result }
+fn then(img: &[u8], at: usize, work: &mut [u8], scope: Scope) -> Result<Typed, Refusal>
+    requires { Ready img.now work.old at scope.vars scope.locks scope.left × (get_or img.now at 0 ≡ 13) }
+    ensures { Finds img.now work.old work.new at scope.vars scope.locks scope.left result }
 {
-    match judge(img, at + 1, work, vars, locks, left - 1) {
-        Answer::Refused(k, p) => Answer::Refused(k, p),
-        Answer::Typed(p2, m) => {
-            match judge(img, p2, work, vars, locks, left - 1) {
-                Answer::Refused(k, p) => Answer::Refused(k, p),
-                Answer::Typed(p3, n) => {
-                    copies::copy(work, slot_of(left - 1), slot_of(left));
-                    Answer::Typed(p3, m | n)
-                }
-            }
-        }
-    }
+    let inner = Scope {
+        vars: scope.vars,
+        locks: scope.locks,
+        left: scope.left - 1,
+    };
+    let a = judge(img, at + 1, work, inner)?;
+    let b = judge(img, a.end, work, inner)?;
+    Ok(second_last(work, scope.left, a, b))
 }
 
 // That the first part is an Int is told before the second is judged.
 #[cycle(rules)]
-fn add(img: &[u8], at: usize, work: &mut [u8], vars: u8, locks: u8, left: u8) -> Answer
-    requires { Ready img.now work.old at vars locks left × (get_or img.now at 0 ≡ 14) }
-    ensures { Finds img.now work.old work.new at vars locks left result }
+fn add(img: &[u8], at: usize, work: &mut [u8], scope: Scope) -> Result<Typed, Refusal>
+    requires { Ready img.now work.old at scope.vars scope.locks scope.left × (get_or img.now at 0 ≡ 14) }
+    ensures { Finds img.now work.old work.new at scope.vars scope.locks scope.left result }
 {
-    let p1 = at + 1;
-    match judge(img, p1, work, vars, locks, left - 1) {
-        Answer::Refused(k, p) => Answer::Refused(k, p),
-        Answer::Typed(p2, m) => {
-            if first_int(work, left) {
-                match judge(img, p2, work, vars, locks, left - 1) {
-                    Answer::Refused(k, p) => Answer::Refused(k, p),
-                    Answer::Typed(p3, n) => second_add(p2, work, left, m, n, p3),
-                }
-            } else {
-                Answer::Refused(11, p1)
-            }
-        }
-    }
+    let inner = Scope {
+        vars: scope.vars,
+        locks: scope.locks,
+        left: scope.left - 1,
+    };
+    let a = judge(img, at + 1, work, inner)?;
+    first_int(at + 1, work, scope.left)?;
+    let b = judge(img, a.end, work, inner)?;
+    second_add(work, scope.left, a, b)
 }
 
 // The number and the two branches stand behind the stated type, which both branches are held against.
 #[cycle(rules)]
-fn conditional(img: &[u8], at: usize, work: &mut [u8], vars: u8, locks: u8, left: u8) -> Answer
-    requires { Ready img.now work.old at vars locks left × (get_or img.now at 0 ≡ 15) }
-    ensures { Finds img.now work.old work.new at vars locks left result }
+fn conditional(img: &[u8], at: usize, work: &mut [u8], scope: Scope) -> Result<Typed, Refusal>
+    requires { Ready img.now work.old at scope.vars scope.locks scope.left × (get_or img.now at 0 ≡ 15) }
+    ensures { Finds img.now work.old work.new at scope.vars scope.locks scope.left result }
 {
-    let p1 = copies::skip(img, at + 1);
-    match judge(img, p1, work, vars, locks, left - 1) {
-        Answer::Refused(k, p) => Answer::Refused(k, p),
-        Answer::Typed(p2, m) => {
-            if first_int(work, left) {
-                match judge(img, p2, work, vars, locks, left - 1) {
-                    Answer::Refused(k, p) => Answer::Refused(k, p),
-                    Answer::Typed(p3, n) => {
-                        if second_cond(img, at, work, left) {
-                            match judge(img, p3, work, vars, locks, left - 1) {
-                                Answer::Refused(k, p) => Answer::Refused(k, p),
-                                Answer::Typed(p4, last) => after_third(
-                                    img,
-                                    at,
-                                    p3,
-                                    work,
-                                    left,
-                                    m | n,
-                                    last,
-                                    p4,
-                                ),
-                            }
-                        } else {
-                            Answer::Refused(12, p2)
-                        }
-                    }
-                }
-            } else {
-                Answer::Refused(11, p1)
-            }
-        }
-    }
+    let inner = Scope {
+        vars: scope.vars,
+        locks: scope.locks,
+        left: scope.left - 1,
+    };
+    let p = copies::skip(img, at + 1);
+    let a = judge(img, p, work, inner)?;
+    first_int(p, work, scope.left)?;
+    let b = judge(img, a.end, work, inner)?;
+    second_cond(img, at, a.end, work, scope.left)?;
+    let c = judge(img, b.end, work, inner)?;
+    after_third(img, at, b.end, work, scope.left, a.need | b.need, c)
 }
 
 // The expression at `at`, under `vars` variables and `locks` locks, with `left` of the nesting left.
+#[tactic(auto, using(crate::proofs::typing::Rule::code_at))]
 #[cycle(rules)]
-pub(crate) fn judge(img: &[u8], at: usize, work: &mut [u8], vars: u8, locks: u8, left: u8) -> Answer
-    requires { Ready img.now work.old at vars locks left }
-    ensures { Finds img.now work.old work.new at vars locks left result }
+pub(crate) fn judge(img: &[u8], at: usize, work: &mut [u8], scope: Scope) -> Result<Typed, Refusal>
+    requires { Ready img.now work.old at scope.vars scope.locks scope.left }
+    ensures { Finds img.now work.old work.new at scope.vars scope.locks scope.left result }
 {
-    let code = img[at];
-    match code {
-        1 => unit(img, at, work, vars, locks, left),
-        2 => number(img, at, work, vars, locks, left),
-        3 => variable(img, at, work, vars, locks, left),
-        4 => function(img, at, work, vars, locks, left),
-        5 => apply(img, at, work, vars, locks, left),
-        6 => new_cell(img, at, work, vars, locks, left),
-        7 => read(img, at, work, vars, locks, left),
-        8 => write(img, at, work, vars, locks, left),
-        9 => fork(img, at, work, vars, locks, left),
-        10 => new_lock(img, at, work, vars, locks, left),
-        11 => section(img, at, work, vars, locks, left),
-        12 => let_in(img, at, work, vars, locks, left),
-        13 => then(img, at, work, vars, locks, left),
-        14 => add(img, at, work, vars, locks, left),
-        _ => conditional(img, at, work, vars, locks, left),
+    match ExpCode::try_from(img[at]) {
+        Ok(ExpCode::Unit) => Ok(unit(img, at, work, scope)),
+        Ok(ExpCode::Number) => Ok(number(img, at, work, scope)),
+        Ok(ExpCode::Variable) => Ok(variable(img, at, work, scope)),
+        Ok(ExpCode::Function) => function(img, at, work, scope),
+        Ok(ExpCode::Apply) => apply(img, at, work, scope),
+        Ok(ExpCode::NewCell) => new_cell(img, at, work, scope),
+        Ok(ExpCode::Read) => read(img, at, work, scope),
+        Ok(ExpCode::Write) => write(img, at, work, scope),
+        Ok(ExpCode::Fork) => fork(img, at, work, scope),
+        Ok(ExpCode::NewLock) => new_lock(img, at, work, scope),
+        Ok(ExpCode::Section) => section(img, at, work, scope),
+        Ok(ExpCode::Let) => let_in(img, at, work, scope),
+        Ok(ExpCode::Then) => then(img, at, work, scope),
+        Ok(ExpCode::Add) => add(img, at, work, scope),
+        Ok(ExpCode::If) => conditional(img, at, work, scope),
+        Err(_) => unreachable!(),
     }
 }

@@ -2,11 +2,11 @@
 ghost use Rattle.std.specs.Prelude.{◌≡◌, ◌*◌, ◌≤◌};
 ghost use Rattle.judging.specs.Work.{slot};
 
-// The place after the expression and its need, with its type in the slot of the call; or a refusal and its place.
+// What an expression comes to: the place after it and its need. Its type stands in the slot of the call.
 #[derive(Clone, Copy)]
-pub(crate) enum Answer {
-    Typed(usize, u32),
-    Refused(u8, usize),
+pub(crate) struct Typed {
+    pub(crate) end: usize,
+    pub(crate) need: u32,
 }
 
 // Where the type of a call with `left` left stands.

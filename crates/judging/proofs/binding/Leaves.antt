@@ -17,7 +17,7 @@ use Rattle.judging.proofs.shift.Laws.{raised_within, raised_size}
 use Rattle.reading.specs.Placed.{Exp, place_of}
 use Rattle.reading.specs.First.{exp_at}
 use Rattle.judging.specs.Rules.{judge}
-use Rattle.judging.specs.declared.work.Answer.TheVariants.{Typed}
+use Rattle.judging.specs.Answer.{gives}
 use Rattle.judging.specs.Phases.{Parts, none, one, two, three, parts_of}
 use Rattle.judging.specs.Work.{slot, Var, InSlot}
 use Rattle.judging.specs.Contract.{Out, Ready, Finds, Starts}
@@ -41,31 +41,31 @@ module _ {img w : List ℕ} {at v n left p : ℕ} (R : Ready img w at v n left) 
   one_byte : (w₁ : List ℕ) (c : ℕ) → w₁ ≡ set w (slot left) c → Kept w w₁ (slot left) (slot left + 256)
   one_byte w₁ c e = rw e (kept_wider (kept_set w (slot left) c) (slot left) (slot left + 256) (omega arith) (omega arith))
 
-  pub leaf_unit : get_or img at 0 ≡ 1 → Finds img w (set w (slot left) 32) at v n left (Typed p 0)
+  pub leaf_unit : get_or img at 0 ≡ 1 → Finds img w (set w (slot left) 32) at v n left (gives p 0)
   unfolding judge ty_size
   leaf_unit e =
       record {
         frame = frame_slot v left (one_byte _ 32 refl) R.deep;
         says = λ x nx env h g.
             let q = ends_there x nx h in
-            by_unit (λ x. ((P : Parts) → parts_of x ≡ P → count P ≡ 0 → p ≡ nx) → Out (set w (slot left) 32) left n nx (judge env x) (Typed p 0)) x ((read_whole left v n img at x nx h).is.coded ∙ e)
+            by_unit (λ x. ((P : Parts) → parts_of x ≡ P → count P ≡ 0 → p ≡ nx) → Out (set w (slot left) 32) left n nx (judge env x) (gives p 0)) x ((read_whole left v n img at x nx h).is.coded ∙ e)
             (λ p₀ q. (
-              ap (λ (z : ℕ). Typed z 0) (q none refl refl),
+              ap (λ (z : ℕ). gives z 0) (q none refl refl),
               record { there = (omega (arith, R.room, length-set w (slot left) 32), get_or-set_same w (slot left) 32 0 (omega (arith, R.room))); within = tt; short = omega arith },
               pow_pos n,
             )) q;
       }
 
-  pub leaf_num : get_or img at 0 ≡ 2 → Finds img w (set w (slot left) 33) at v n left (Typed p 0)
+  pub leaf_num : get_or img at 0 ≡ 2 → Finds img w (set w (slot left) 33) at v n left (gives p 0)
   unfolding judge ty_size
   leaf_num e =
       record {
         frame = frame_slot v left (one_byte _ 33 refl) R.deep;
         says = λ x nx env h g.
             let q = ends_there x nx h in
-            by_num (λ x. ((P : Parts) → parts_of x ≡ P → count P ≡ 0 → p ≡ nx) → Out (set w (slot left) 33) left n nx (judge env x) (Typed p 0)) x ((read_whole left v n img at x nx h).is.coded ∙ e)
+            by_num (λ x. ((P : Parts) → parts_of x ≡ P → count P ≡ 0 → p ≡ nx) → Out (set w (slot left) 33) left n nx (judge env x) (gives p 0)) x ((read_whole left v n img at x nx h).is.coded ∙ e)
             (λ p₀ i q. (
-              ap (λ (z : ℕ). Typed z 0) (q none refl refl),
+              ap (λ (z : ℕ). gives z 0) (q none refl refl),
               record { there = (omega (arith, R.room, length-set w (slot left) 33), get_or-set_same w (slot left) 33 0 (omega (arith, R.room))); within = tt; short = omega arith },
               pow_pos n,
             )) q;
@@ -104,7 +104,7 @@ module _ {img w : List ℕ} {at v n left p : ℕ} (R : Ready img w at v n left) 
         let l : k ≤ n - get_or w (320 * j + 256) 0 = rw e₁ at h in
         (VV.level, omega (arith, VV.under, R.few), VV.stored, c.holds VV.stored (rw e₁ VV.there), VV.within)
 
-    var_out : (w₁ w₂ : List ℕ) (r : ℕ) → Moved w w₁ (320 * j) (slot left) → Raises w₁ w₂ (slot left) (n - get_or w (320 * j + 256) 0) r → Finds img w w₂ at v n left (Typed p 0)
+    var_out : (w₁ w₂ : List ℕ) (r : ℕ) → Moved w w₁ (320 * j) (slot left) → Raises w₁ w₂ (slot left) (n - get_or w (320 * j + 256) 0) r → Finds img w w₂ at v n left (gives p 0)
     unfolding judge
     var_out w₁ w₂ r c d =
         let VV₀ = the_var in
@@ -115,7 +115,7 @@ module _ {img w : List ℕ} {at v n left p : ℕ} (R : Ready img w at v n left) 
           says = λ x nx env h g.
               let W = read_whole left v n img at x nx h in
               let q = ends_there x nx h in
-              by_var (λ x. Facts v n img x → place_of x ≡ at → ((P : Parts) → parts_of x ≡ P → count P ≡ 0 → p ≡ nx) → Out w₂ left n nx (judge env x) (Typed p 0)) x (W.is.coded ∙ e)
+              by_var (λ x. Facts v n img x → place_of x ≡ at → ((P : Parts) → parts_of x ≡ P → count P ≡ 0 → p ≡ nx) → Out w₂ left n nx (judge env x) (gives p 0)) x (W.is.coded ∙ e)
               (λ p₀ i f y q.
               let pz : p₀ + 1 ≡ at + 1 = ap (λ (k : ℕ). k + 1) y in
               let iz : get_or img (at + 1) 0 ≡ i = ap (λ (k : ℕ). get_or img k 0) (sym pz) ∙ f.0.1 in
@@ -126,7 +126,7 @@ module _ {img w : List ℕ} {at v n left p : ℕ} (R : Ready img w at v n left) 
               let kz : n - VV.level ≡ K = ap (λ (k : ℕ). n - k) (sym lv) in
               let tz : raised K VV.stored ≡ get_or env i unit = ap (λ (k : ℕ). raised k VV.stored) (sym kz) ∙ sym VV.is in
               let nz : VV.level + K ≡ n = omega (arith, VV.under) in (
-                ap (λ (z : ℕ). Typed z 0) (q none refl refl),
+                ap (λ (z : ℕ). gives z 0) (q none refl refl),
                 subst (λ (t : Ty). InSlot w₂ left n t) tz
                     (record {
                       there = D.holds;
@@ -138,5 +138,5 @@ module _ {img w : List ℕ} {at v n left p : ℕ} (R : Ready img w at v n left) 
         }
 
     -- a variable is raised by the locks in scope that were not in scope where it was bound
-    pub leaf_var : (from to k : ℕ) (w₁ w₂ : List ℕ) (r : ℕ) → from ≡ 320 * j → to ≡ slot left → k ≡ n - get_or w (from + 256) 0 → Moved w w₁ from to → Raises w₁ w₂ to k r → Finds img w w₂ at v n left (Typed p 0)
+    pub leaf_var : (from to k : ℕ) (w₁ w₂ : List ℕ) (r : ℕ) → from ≡ 320 * j → to ≡ slot left → k ≡ n - get_or w (from + 256) 0 → Moved w w₁ from to → Raises w₁ w₂ to k r → Finds img w w₂ at v n left (gives p 0)
     leaf_var from to k w₁ w₂ r e₁ e₂ e₃ c d = var_out w₁ w₂ r (rw (e₁, e₂) at c) (rw (e₃, e₁, e₂) at d)

@@ -11,8 +11,7 @@ use borrow.Author.Tests.{ne_eqb, ltb-true, leb-true}
 use Rattle.paper.specs.Base.{word32}
 use Rattle.paper.specs.Reading.{Read, got, wrong}
 use Rattle.types.specs.Stated.{pick, name_at, set_at, stated_at}
-use Rattle.types.specs.declared.stated.Got.{Got}
-use Rattle.types.specs.declared.stated.Got.TheVariants.{Next, Refused}
+use Rattle.paper.specs.Verdict.{Out, ok, refused}
 use Rattle.types.specs.Told.{told, on}
 use Rattle.reading.specs.First.{num_at, var_at}
 use Rattle.reading.specs.Walk.{fields}
@@ -23,28 +22,28 @@ use Rattle.judging.proofs.Node.{read_whole}
 use Rattle.judging.proofs.Stated.{stated_got, name_got, set_got}
 
 -- ---- an answer with a place is of something that was read
-told_next : {A : Type 0} (r : Read A) {q : ℕ} → told r ≡ Next q → (a : A) × (r ≡ got a q)
+told_next : {A : Type 0} (r : Read A) {q : ℕ} → told r ≡ ok q → (a : A) × (r ≡ got a q)
 unfolding told
 told_next (got a p) {q} e = let z : p ≡ q = cc in (a, rw z)
 told_next (wrong k p) e = let z : ◌≡◌ {A = ℕ} 0 1 = cc in absurd (omega arith)
 
-on_next : (r : Got) (f : ℕ → Got) {q : ℕ} → on r f ≡ Next q → (p : ℕ) × (r ≡ Next p) × (f p ≡ Next q)
-on_next (Next p) f e = (p, refl, e)
-on_next (Refused k p) f e = let z : ◌≡◌ {A = ℕ} 0 1 = cc in absurd (omega arith)
+on_next : (r : Out ℕ) (f : ℕ → Out ℕ) {q : ℕ} → on r f ≡ ok q → (p : ℕ) × (r ≡ ok p) × (f p ≡ ok q)
+on_next (ok p) f e = (p, refl, e)
+on_next (refused k p) f e = let z : ◌≡◌ {A = ℕ} 0 1 = cc in absurd (omega arith)
 
-num_next : (s : List ℕ) (at : ℕ) {q : ℕ} → told (num_at s at) ≡ Next q → (q ≡ at + 4) × (q ≤ length s)
+num_next : (s : List ℕ) (at : ℕ) {q : ℕ} → told (num_at s at) ≡ ok q → (q ≡ at + 4) × (q ≤ length s)
 unfolding told num_at
 num_next s at {q} e = go (leb (at + 4) (length s)) refl e
   where
-    go : (b : Bool) → leb (at + 4) (length s) ≡ b → told (pick b (got (word32 s at) (at + 4)) (wrong 5 (length s))) ≡ Next q → (q ≡ at + 4) × (q ≤ length s)
+    go : (b : Bool) → leb (at + 4) (length s) ≡ b → told (pick b (got (word32 s at) (at + 4)) (wrong 5 (length s))) ≡ ok q → (q ≡ at + 4) × (q ≤ length s)
     go true l e = let z : q ≡ at + 4 = cc in (z, omega (arith, leb-true (at + 4) (length s) l))
     go false l e = let z : ◌≡◌ {A = ℕ} 0 1 = cc in absurd (omega arith)
 
-var_next : (v : ℕ) (s : List ℕ) (at : ℕ) {q : ℕ} → told (var_at v s at) ≡ Next q → (q ≡ at + 1) × (q ≤ length s)
+var_next : (v : ℕ) (s : List ℕ) (at : ℕ) {q : ℕ} → told (var_at v s at) ≡ ok q → (q ≡ at + 1) × (q ≤ length s)
 unfolding told var_at
 var_next v s at {q} e = go (ltb at (length s)) (ltb (get_or s at 0) v) refl e
   where
-    go : (b c : Bool) → ltb at (length s) ≡ b → told (pick b (pick c (got (get_or s at 0) (at + 1)) (wrong 8 at)) (wrong 5 (length s))) ≡ Next q → (q ≡ at + 1) × (q ≤ length s)
+    go : (b c : Bool) → ltb at (length s) ≡ b → told (pick b (pick c (got (get_or s at 0) (at + 1)) (wrong 8 at)) (wrong 5 (length s))) ≡ ok q → (q ≡ at + 1) × (q ≤ length s)
     go true true l e = let z : q ≡ at + 1 = cc in (z, omega (arith, ltb-true at (length s) l))
     go true false l e = let z : ◌≡◌ {A = ℕ} 0 1 = cc in absurd (omega arith)
     go false c l e = let z : ◌≡◌ {A = ℕ} 0 1 = cc in absurd (omega arith)
@@ -55,7 +54,7 @@ pub record Passed (s : List ℕ) (at q : ℕ) : Type 0 where
   pub ends : (p : ℕ) → Ends s at p → q ≡ p
   pub room : q ≤ length s
 
-stated_next : (n : ℕ) (s : List ℕ) (at : ℕ) {q : ℕ} → told (stated_at n s at) ≡ Next q → Passed s at q
+stated_next : (n : ℕ) (s : List ℕ) (at : ℕ) {q : ℕ} → told (stated_at n s at) ≡ ok q → Passed s at q
 stated_next n s at {q} e =
     let r = told_next (stated_at n s at) e in
     let t = (stated_got n s at r.0 q r.1).is in
@@ -69,7 +68,7 @@ stated_next n s at {q} e =
 pub record Own (s : List ℕ) (at v n : ℕ) : Type 0 where
   pub inn : at < length s
   pub start : ℕ
-  pub own : fields (get_or s at 0) v n s at ≡ Next start
+  pub own : fields (get_or s at 0) v n s at ≡ ok start
 
 pub own_read : {s w : List ℕ} {at v n left : ℕ} → contract.Ready s w at v n left → Own s at v n
 own_read {s} {w} {at} {v} {n} {left} R =
@@ -81,7 +80,7 @@ module _ {s : List ℕ} {at v n : ℕ} (o : Own s at v n) where
   q = o.start
 
   pub starts : {p : ℕ} → q ≡ p → contract.Starts s at v n p
-  starts e = o.own ∙ ap Next e
+  starts e = o.own ∙ ap ok e
 
   start_num : get_or s at 0 ≡ 2 → (q ≡ at + 5) × (q ≤ length s)
   unfolding fields
@@ -117,14 +116,14 @@ module _ {s : List ℕ} {at v n : ℕ} (o : Own s at v n) where
   unfolding fields
   start_other a b c d f = go (ℕ_discrete (get_or s at 0) 10)
     where
-      lock : (t : Bool) → pick t (Next (at + 1)) (Refused 7 at) ≡ Next q → q ≡ at + 1
+      lock : (t : Bool) → pick t (ok (at + 1)) (refused 7 at) ≡ ok q → q ≡ at + 1
       lock true e = cc
       lock false e = let z : ◌≡◌ {A = ℕ} 0 1 = cc in absurd (omega arith)
 
       go : Dec (get_or s at 0 ≡ 10) → q ≡ at + 1
       go (yes e) = lock (ltb n 32) (rw e at o.own)
       go (no e) =
-          let o : Next (at + 1) ≡ Next q = simp (ne_eqb _ 2 a, ne_eqb _ 3 b, ne_eqb _ 4 c, ne_eqb _ 6 d, ne_eqb _ 10 e, ne_eqb _ 15 f) at o.own in
+          let o : ok (at + 1) ≡ ok q = simp (ne_eqb _ 2 a, ne_eqb _ 3 b, ne_eqb _ 4 c, ne_eqb _ 6 d, ne_eqb _ 10 e, ne_eqb _ 15 f) at o.own in
           cc
 
 -- ---- the place after an expression without parts

@@ -1,32 +1,46 @@
 -- Copying, byte by byte, and what a copy holds; and the end of a type, by its code.
-use mathlib.Core.Path.{◌≡◌, refl, ◌∙◌}
-use mathlib.Core.List.{List}
+use mathlib.Core.Path.{◌≡◌, refl, ap, ◌∙◌}
+use mathlib.Core.List.{List, ◌++◌}
 use mathlib.Core.Logic.{⊎_elim}
 use Prim.Native.Nat.{ℕ, ◌+◌, ◌-◌, ◌≤◌, ◌<◌}
 use native.Mathlib.Omega.{arith}
 use native.Mathlib.Nat.{add-zero}
 use native.Mathlib.Decide.{ℕ_discrete}
-use lib.ListN.{length, get_or, set, length-set}
-use lib.Seq.{get_or-set_same, get_or-set_other}
+use borrow.Rule.Slice.PartMut.{put_mid}
+use lib.ListN.{length, get_or, set, take, drop, length-set, length-append, length-drop, get_or-append}
+use lib.Seq.{get_or-set_same, get_or-set_other, get_or-append-add, get_or-take, get_or-drop, length-take-le}
 use Rattle.paper.specs.Types.{Ty, unit, int, lock, ref, fun, ty_size}
 use Rattle.types.specs.Holds.{Holds, Byte, Four}
 use Rattle.judging.proofs.Held.{held, holds_end, by_lock, by_leaf, kept_wider, kept_then, kept_refl, kept_set}
 use Rattle.judging.specs.Copies.{Copied, Movable, Moved, Some, Ends}
 
-pub none : (s : List ℕ) (from : ℕ) (w : List ℕ) (to : ℕ) → Copied s from 0 w w to
-none s from w to = record { kept = kept_refl w to (to + 0); same = λ j h. absurd (omega arith) }
+-- ys, a part of s, is written over a part of w
+module _ (s : List ℕ) (from n : ℕ) (w : List ℕ) (to : ℕ) (ys : List ℕ) (e : ys ≡ take (from + n - from) (drop from s)) (l : from + n ≤ length s) (h : to + n ≤ length w) where
+  abbrev rest : List ℕ
+  rest = drop (to + n - to) (drop to w)
 
--- one byte more
-pub more : (s : List ℕ) (from i : ℕ) (w w₁ : List ℕ) (to b : ℕ) → Copied s from i w w₁ to → to + i < length w₁ → b ≡ get_or s (from + i) 0 → Copied s from (i + 1) w (set w₁ (to + i) b) to
-more s from i w w₁ to b c h e =
-    record {
-      kept = kept_then (kept_wider c.kept to (to + (i + 1)) (omega arith) (omega arith)) (kept_wider (kept_set w₁ (to + i) b) to (to + (i + 1)) (omega arith) (omega arith));
-      same = λ j l. at j l (ℕ_discrete j i);
-    }
-  where
-    at : (j : ℕ) → j < i + 1 → Dec (j ≡ i) → get_or (set w₁ (to + i) b) (to + j) 0 ≡ get_or s (from + j) 0
-    at j l (yes z) = rw z (get_or-set_same w₁ (to + i) b 0 h ∙ e)
-    at j l (no z) = get_or-set_other w₁ (to + i) (to + j) b 0 (λ x. omega arith) ∙ c.same j (omega arith)
+  many : length ys ≡ n
+  many = ap length e ∙ length-take-le (from + n - from) (drop from s) (omega (arith, length-drop from s)) ∙ omega arith
+
+  front : length (take to w) ≡ to
+  front = length-take-le to w (omega arith)
+
+  past : (xs zs : List ℕ) (i k : ℕ) → i ≡ length xs + k → get_or (xs ++ zs) i 0 ≡ get_or zs k 0
+  past xs zs i k f = ap (λ (m : ℕ). get_or (xs ++ zs) m 0) f ∙ get_or-append-add xs zs k 0
+
+  pub pasted : Copied s from n w (put_mid to (to + n - to) w ys) to
+  pasted = record {
+    kept = record {
+      long = length-append (take to w) (ys ++ rest) ∙ omega (arith, length-append ys rest, many, front, length-drop (to + n - to) (drop to w), length-drop to w);
+      low = λ i g. get_or-append (take to w) (ys ++ rest) 0 i (omega (arith, front)) ∙ get_or-take to w i 0 g;
+      high = λ i g.
+          past (take to w) (ys ++ rest) i (i - to) (omega (arith, front)) ∙ past ys rest (i - to) (i - to - n) (omega (arith, many))
+          ∙ get_or-drop (to + n - to) (drop to w) (i - to - n) 0 ∙ get_or-drop to w (to + n - to + (i - to - n)) 0 ∙ ap (λ (k : ℕ). get_or w k 0) (omega arith);
+    };
+    same = λ j g.
+        past (take to w) (ys ++ rest) (to + j) j (omega (arith, front)) ∙ get_or-append ys rest 0 j (omega (arith, many)) ∙ ap (λ (z : List ℕ). get_or z j 0) e
+        ∙ get_or-take (from + n - from) (drop from s) j 0 (omega arith) ∙ get_or-drop from s j 0;
+  }
 
 -- a type moves with its bytes
 pub holds_moved : (s : List ℕ) (i : ℕ) (s' : List ℕ) (j : ℕ) (t : Ty) → ((k : ℕ) → k < ty_size t → get_or s' (j + k) 0 ≡ get_or s (i + k) 0) → j + ty_size t ≤ length s' → Holds s i t → Holds s' j t
@@ -110,12 +124,6 @@ module _ (w : List ℕ) (from to p : ℕ) (M : Movable w from to) (d : Ends w fr
       let s = M.2 in
       let l = M.3 in
       (omega arith, omega arith, omega arith, omega arith)
-
-  -- what is still to be copied is as it was
-  pub unmoved : (i : ℕ) (w₁ : List ℕ) → Copied w from i w w₁ to → i < p - from → get_or w₁ (from + i) 0 ≡ get_or w (from + i) 0
-  unmoved i w₁ c h =
-      let r = move_room.2 in
-      ⊎_elim (λ l. c.kept.high (from + i) (omega arith)) (λ l. c.kept.low (from + i) (omega arith)) M.4
 
   pub moved : (w' : List ℕ) → Copied w from (p - from) w w' to → Moved w w' from to
   moved w' c =

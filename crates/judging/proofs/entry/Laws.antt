@@ -14,23 +14,24 @@ use Rattle.paper.specs.Reading.{Read, got, wrong, known, untrue, whole, read_exp
 use Rattle.paper.specs.Verdict as paper
 use Rattle.paper.specs.Verdict.{Out, ok, refused, ◌▷◌, Typed, verdict}
 use Rattle.paper.specs.Calls.{JudgeCall, judge_call, laid, zeroed, type_bytes, work_bytes}
-use Rattle.types.specs.declared.stated.Got.{Got}
-use Rattle.types.specs.declared.stated.Got.TheVariants as got
 use Rattle.types.specs.Told.{told}
 use Rattle.reading.specs.Place.{place}
 use Rattle.reading.specs.Placed as Placed
 use Rattle.reading.specs.First.{exp_at}
 use Rattle.reading.proofs.first.Agree.{Alike, both, neither, exp_alike}
-use Rattle.judging.specs.declared.work.Answer.{Answer}
-use Rattle.judging.specs.declared.work.Answer.TheVariants as answer
-use Rattle.judging.specs.declared.entry.Verdict.{Verdict}
-use Rattle.judging.specs.declared.entry.Verdict.TheVariants.{Accepted, Refused}
+use Rattle.std.specs.Prelude.{Result, Ok, Err}
+use Rattle.answers.specs.Said.{said}
+use Rattle.answers.specs.Numbers.{number, place as place_at}
+use Rattle.answers.specs.declared.Refusal.{Refusal}
+use Rattle.answers.specs.declared.Refusal.TheVariants.{ShortBuffer}
+use Rattle.judging.specs.declared.work.Typed as code
+use Rattle.judging.specs.Answer.{Answer}
 use Rattle.judging.specs.Holds.{Kept}
 use Rattle.judging.specs.Copies.{Givable, Given}
 use Rattle.judging.specs.Rules.{Judged}
 use Rattle.judging.specs.Work.{InSlot}
 use Rattle.judging.specs.Contract.{Out as Gives, Ready, Finds}
-use Rattle.judging.specs.Entry.{said, Judges, Answers, accepts, refuses, Comes}
+use Rattle.judging.specs.Entry.{Judges, Answers, accepts, refuses, Comes}
 use Rattle.judging.proofs.Held.{kept_refl}
 use Rattle.judging.proofs.copies.Bytes.{same_drop}
 use Rattle.judging.proofs.Agree.{drawn, judge_is}
@@ -81,23 +82,27 @@ module _ (s : List ℕ) where
       ap (λ (z : Placed.Exp). got z i) (q ∙ ap (place 3) a) ∙ ap (got (place 3 e)) b
   placed e j r r' neither h = let z : ◌≡◌ {A = ℕ} 0 1 = cc in absurd (omega arith)
 
-  was : (r : Read Exp) → read_image s ≡ r → (g : Got) → g ≡ told r → (p : ℕ) → g ≡ got.Next p → Was s
+  was : (r : Read Exp) → read_image s ≡ r → (g : Result ℕ Refusal) → said g ≡ told r → {p : ℕ} → g ≡ Ok p → Was s
   unfolding told
-  was (got e j) h g f p k = record { e = e; next = j; is = h; reads = placed e j (exp_at 64 0 0 s 3) (read_exp 1 64 s 0 0 3) (exp_alike s 64 0 0 3) (image_exp e j h) }
-  was (wrong n m) h g f p k = let z : ◌≡◌ {A = ℕ} 0 1 = cc in absurd (omega arith)
+  was (got e j) h g f k = record { e = e; next = j; is = h; reads = placed e j (exp_at 64 0 0 s 3) (read_exp 1 64 s 0 0 3) (exp_alike s 64 0 0 3) (image_exp e j h) }
+  was (wrong n m) h g f {p} k = let y : ◌≡◌ {A = Out ℕ} (ok p) (refused n m) = ap said (sym k) ∙ f in let z : ◌≡◌ {A = ℕ} 0 1 = cc in absurd (omega arith)
 
-  pub read_was : (g : Got) → g ≡ told (read_image s) → (p : ℕ) → g ≡ got.Next p → Was s
-  read_was g f p k = was (read_image s) refl g f p k
+  pub read_was : (g : Result ℕ Refusal) → said g ≡ told (read_image s) → {p : ℕ} → g ≡ Ok p → Was s
+  read_was g f k = was (read_image s) refl g f k
 
-  refused_by : (r : Read Exp) (g : Got) → g ≡ told r → (k p : ℕ) → g ≡ got.Refused k p → of_read r ≡ refused k p
+  refused_by : (r : Read Exp) (g : Result ℕ Refusal) → said g ≡ told r → {e : Refusal} → g ≡ Err e → of_read r ≡ refused (number e) (place_at e)
   unfolding told
-  refused_by (got e j) g f k p h = let z : ◌≡◌ {A = ℕ} 0 1 = cc in absurd (omega arith)
-  refused_by (wrong n m) g f k p h = let a : n ≡ k = cc in let b : m ≡ p = cc in ap₂ refused a b
+  refused_by (got x j) g f {e} h = let y : ◌≡◌ {A = Out ℕ} (refused (number e) (place_at e)) (ok j) = ap said (sym h) ∙ f in let z : ◌≡◌ {A = ℕ} 0 1 = cc in absurd (omega arith)
+  refused_by (wrong n m) g f {e} h =
+      let y : ◌≡◌ {A = Out ℕ} (refused (number e) (place_at e)) (refused n m) = ap said (sym h) ∙ f in
+      let a : n ≡ number e = cc in
+      let b : m ≡ place_at e = cc in
+      ap₂ refused a b
 
-  pub read_refused : (t w : List ℕ) (g : Got) → g ≡ told (read_image s) → (k p : ℕ) → g ≡ got.Refused k p → Comes s t w (Refused k p) t w
-  read_refused t w g f k p h =
+  pub read_refused : (t w : List ℕ) (g : Result ℕ Refusal) → said g ≡ told (read_image s) → {e : Refusal} → g ≡ Err e → Comes s t w (Err e) t w
+  read_refused t w g f {e} h =
       record {
-        answers = subst (λ (o : Out Ty). Answers t t (Refused k p) o) (sym (verdict_is s (read_image s) refl ∙ refused_by (read_image s) g f k p h)) (refuses k p refl refl);
+        answers = subst (λ (o : Out Ty). Answers t t (Err e) o) (sym (verdict_is s (read_image s) refl ∙ refused_by (read_image s) g f h)) (refuses (number e) (place_at e) refl refl);
         kept = kept_refl w 0 40960;
       }
 
@@ -119,36 +124,43 @@ module _ (s t w w' : List ℕ) (W : Was s) (long : 40960 ≤ length w) where
     verdict_of : verdict s ≡ of_typing (paper.judge [] 3 W.e)
     verdict_of = verdict_is s (got W.e W.next) W.is
 
-    stop : (o : Out Typed) → Gives w' 64 0 W.next (drawn o) r → (k p : ℕ) → r ≡ answer.Refused k p → Answers t t (Refused k p) (of_typing o)
+    stop : (o : Out Typed) → Gives w' 64 0 W.next (drawn o) r → {e : Refusal} → r ≡ Err e → Answers t t (Err e) (of_typing o)
     unfolding drawn
-    stop (ok x) h k p e = let a = h.0 in let z : ◌≡◌ {A = ℕ} 0 1 = cc in absurd (omega arith)
-    stop (refused n q) h k p e = refuses n q (let a : k ≡ n = cc in let b : p ≡ q = cc in ap₂ Refused a b) refl
+    stop (ok x) h f = let a = h.0 in let z : ◌≡◌ {A = ℕ} 0 1 = cc in absurd (omega arith)
+    stop (refused n q) h {e} f =
+        let g : ◌≡◌ {A = Out code.Typed} (refused (number e) (place_at e)) (refused n q) = ap said (sym f) ∙ h in
+        let a : number e ≡ n = cc in
+        let b : place_at e ≡ q = cc in
+        refuses n q (ap₂ refused a b) refl
 
-    pub typing_refused : (k p : ℕ) → r ≡ answer.Refused k p → Comes s t w (Refused k p) t w'
-    typing_refused k p e =
+    pub typing_refused : {e : Refusal} → r ≡ Err e → Comes s t w (Err e) t w'
+    typing_refused {e} f =
         record {
-          answers = subst (λ (o : Out Ty). Answers t t (Refused k p) o) (sym verdict_of) (stop (paper.judge [] 3 W.e) out k p e);
+          answers = subst (λ (o : Out Ty). Answers t t (Err e) o) (sym verdict_of) (stop (paper.judge [] 3 W.e) out f);
           kept = left_over;
         }
 
-    in_slot : (o : Out Typed) → Gives w' 64 0 W.next (drawn o) r → (q m : ℕ) → r ≡ answer.Typed q m → (a : Ty) × InSlot w' 64 0 a × (of_typing o ≡ ok a)
+    in_slot : (o : Out Typed) → Gives w' 64 0 W.next (drawn o) r → {a : code.Typed} → r ≡ Ok a → (a : Ty) × InSlot w' 64 0 a × (of_typing o ≡ ok a)
     unfolding drawn
-    in_slot (ok x) h q m e = (x.type, h.1, refl)
-    in_slot (refused n p) h q m e = let z : ◌≡◌ {A = ℕ} 0 1 = cc in absurd (omega arith)
+    in_slot (ok x) h f = (x.type, h.1, refl)
+    in_slot (refused n p) h {a} f =
+        let g : ◌≡◌ {A = Out code.Typed} (ok a) (refused n p) = ap said (sym f) ∙ h in
+        let z : ◌≡◌ {A = ℕ} 0 1 = cc in
+        absurd (omega arith)
 
-    module _ (q m : ℕ) (e : r ≡ answer.Typed q m) where
+    module _ {a : code.Typed} (e : r ≡ Ok a) where
       abbrev found : (a : Ty) × InSlot w' 64 0 a × (of_typing (paper.judge [] 3 W.e) ≡ ok a)
-      found = in_slot (paper.judge [] 3 W.e) out q m e
+      found = in_slot (paper.judge [] 3 W.e) out e
 
       pub givable : 256 ≤ length t → Givable w' 20736 t
       givable l = let z = found.1.short in (found.0, found.1.there, omega arith)
 
-      pub accepted : (t' : List ℕ) (n : ℕ) → Given w' 20736 t t' n → Comes s t w (Accepted n) t' w'
+      pub accepted : (t' : List ℕ) (n : ℕ) → Given w' 20736 t t' n → Comes s t w (Ok n) t' w'
       accepted t' n G =
           let a = found.0 in
           let g = G a found.1.there in
           record {
-            answers = subst (λ (o : Out Ty). Answers t t' (Accepted n) o) (sym (verdict_of ∙ found.2)) (accepts a (ap Accepted g.0) g.1);
+            answers = subst (λ (o : Out Ty). Answers t t' (Ok n) o) (sym (verdict_of ∙ found.2)) (accepts a (ap Ok g.0) g.1);
             kept = left_over;
           }
 
@@ -173,7 +185,7 @@ module _ (s t w : List ℕ) where
   or_true true b e = refl
   or_true false b e = e
 
-  as_it_was : judge_call s t w ≡ by_lengths true → Judges s t w (Refused 1 0) t w
+  as_it_was : judge_call s t w ≡ by_lengths true → Judges s t w (Err ShortBuffer) t w
   as_it_was q =
       record {
         says = sym (ap (λ (c : JudgeCall). c.says) q);
@@ -181,10 +193,10 @@ module _ (s t w : List ℕ) where
         work = sym (ap (λ (c : JudgeCall). c.work) q);
       }
 
-  pub short_types : length t < 256 → Judges s t w (Refused 1 0) t w
+  pub short_types : length t < 256 → Judges s t w (Err ShortBuffer) t w
   short_types h = as_it_was (call_is true (ap (λ (b : Bool). b || ltb (length w) 40960) (lt-ltb (length t) 256 h)))
 
-  pub short_work : length w < 40960 → Judges s t w (Refused 1 0) t w
+  pub short_work : length w < 40960 → Judges s t w (Err ShortBuffer) t w
   short_work h = as_it_was (call_is true (or_true (ltb (length t) 256) (ltb (length w) 40960) (lt-ltb (length w) 40960 h)))
 
   module _ (a : 256 ≤ length t) (b : 40960 ≤ length w) where
@@ -195,7 +207,7 @@ module _ (s t w : List ℕ) where
     unfolding zeroed work_bytes
     zeroed_same w' k = ap (λ (l : List ℕ). replicate 40960 0 ++ l) (same_drop w' w 40960 k.long k.high)
 
-    judges_by : (r : Verdict) (t' w'' : List ℕ) (o : Out Ty) → Answers t t' r o → w'' ≡ zeroed w → judge_call s t w ≡ after o → Judges s t w r t' w''
+    judges_by : (r : Result ℕ Refusal) (t' w'' : List ℕ) (o : Out Ty) → Answers t t' r o → w'' ≡ zeroed w → judge_call s t w ≡ after o → Judges s t w r t' w''
     judges_by r t' w'' o (accepts a e f) z q =
         record {
           says = ap said e ∙ sym (ap (λ (c : JudgeCall). c.says) q);
@@ -204,16 +216,16 @@ module _ (s t w : List ℕ) where
         }
     judges_by r t' w'' o (refuses k p e f) z q =
         record {
-          says = ap said e ∙ sym (ap (λ (c : JudgeCall). c.says) q);
+          says = e ∙ sym (ap (λ (c : JudgeCall). c.says) q);
           types = f ∙ sym (ap (λ (c : JudgeCall). c.types) q);
           work = z ∙ sym (ap (λ (c : JudgeCall). c.work) q);
         }
 
-    pub judges : (r : Verdict) (t' w' w'' : List ℕ) → Comes s t w r t' w' → w'' ≡ zeroed w' → Judges s t w r t' w''
+    pub judges : (r : Result ℕ Refusal) (t' w' w'' : List ℕ) → Comes s t w r t' w' → w'' ≡ zeroed w' → Judges s t w r t' w''
     judges r t' w' w'' C z = judges_by r t' w'' (verdict s) C.answers (z ∙ zeroed_same w' C.kept) call_long
 
 -- what a caller knows whose buffers are long enough: the verdict, and a work buffer that is zero
-pub judged_long : {s t w t' w' : List ℕ} {r : Verdict} → Judges s t w r t' w' → 256 ≤ length t → 40960 ≤ length w
+pub judged_long : {s t w t' w' : List ℕ} {r : Result ℕ Refusal} → Judges s t w r t' w' → 256 ≤ length t → 40960 ≤ length w
     → (said r ≡ (verdict s ▷ λ a. ok (ty_size a))) × (w' ≡ zeroed w)
 judged_long {s} {t} {w} J a b =
     let q = call_long s t w a b in

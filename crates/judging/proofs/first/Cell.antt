@@ -15,13 +15,13 @@ use Rattle.judging.specs.Copies.{Copied, Ends}
 use Rattle.judging.proofs.copies.Laws.{holds_copied}
 use Rattle.judging.specs.Shift.{Within}
 use Rattle.types.specs.Subtype.{Related}
-use Rattle.types.specs.declared.subtype.Cmp.{Cmp}
-use Rattle.types.specs.declared.subtype.Cmp.TheVariants.{Next, Differ}
 use Rattle.types.proofs.subtype.Says.{says, cmp_next, cmp_differ, sub_is}
 use Rattle.reading.specs.Placed as e
 use Rattle.reading.specs.Placed.{Exp, place_of}
 use Rattle.reading.specs.Walk.{locks1}
-use Rattle.judging.specs.declared.work.Answer.TheVariants.{Typed, Refused}
+use Rattle.std.specs.Prelude.{Option, Some, None, Err}
+use Rattle.answers.specs.declared.Refusal.TheVariants.{OwnTypeLong, NotSubtype}
+use Rattle.judging.specs.Answer.{gives}
 use Rattle.judging.specs.Phases.{parts_of, after1}
 use Rattle.judging.specs.Work.{slot}
 use Rattle.judging.specs.Contract.{Out, Given, First, Some1, place1}
@@ -45,32 +45,32 @@ module _ {img w : List ℕ} {at n left : ℕ} (O : Some1 img w at n left) (ez : 
   pub cell_room : (p : ℕ) → Ends img (at + 2) p → (at + 2 ≤ p) × (p ≤ length img)
   cell_room p d = by_it O.0 O.1 (λ x. (at + 2 ≤ p) × (p ≤ length img)) O.2 (λ k t a p g hk kn h wt. let z = d t h in (omega arith, omega (arith, holds_end img (at + 2) t h)))
 
-  module _ {part need next : ℕ} {r : Cmp} (D : Related w (slot (left - 1)) img (at + 2) below r) where
-    pub cell_12 : r ≡ Differ → First img w w at n left part need next (Refused 12 part)
+  module _ {part need next : ℕ} {r : Option ℕ} (D : Related w (slot (left - 1)) img (at + 2) below r) where
+    pub cell_12 : r ≡ None → First img w w at n left part need next (Err (NotSubtype part))
     unfolding after1
     cell_12 f =
         record {
           kept = kept_refl w (slot left) (slot left + 256);
           says = λ v x G pl t I s.
-              by_it v x (λ x. place1 (parts_of x) ≡ part → Out w left n next (after1 x t need) (Refused 12 part)) G
+              by_it v x (λ x. place1 (parts_of x) ≡ part → Out w left n next (after1 x t need) (Err (NotSubtype part))) G
               (λ k c a p g hk kn h wt pl. let q : subtype t c ≡ false = sym (sub_is t c) ∙ cmp_differ (slot (left - 1) + ty_size t) (related below t c) (sym f ∙ says D t c I.there h) in rw (q, pl)) pl;
         }
 
-    module _ {q₀ p : ℕ} (f : r ≡ Next q₀) (d : Ends img (at + 2) p) where
-      pub cell_10 : 254 < p - (at + 2) → First img w w at n left part need next (Refused 10 at)
+    module _ {q₀ p : ℕ} (f : r ≡ Some q₀) (d : Ends img (at + 2) p) where
+      pub cell_10 : 254 < p - (at + 2) → First img w w at n left part need next (Err (OwnTypeLong at))
       unfolding after1 ty_size
       cell_10 l =
           record {
             kept = kept_refl w (slot left) (slot left + 256);
             says = λ v x G pl t I s.
-                by_it v x (λ x. Out w left n next (after1 x t need) (Refused 10 at)) G
+                by_it v x (λ x. Out w left n next (after1 x t need) (Err (OwnTypeLong at))) G
                 (λ k c a p₀ g hk kn h wt.
                 let q : subtype t c ≡ true = sym (sub_is t c) ∙ (cmp_next (slot (left - 1) + ty_size t) q₀ (related below t c) (sym f ∙ says D t c I.there h)).0 in
                 let z = d c h in
                 rw (q, lt-leb (ty_size c + 2) 256 (omega arith), g));
           }
 
-      pub cell_go : (w' : List ℕ) → p - (at + 2) ≤ 254 → Copied img (at + 2) (p - (at + 2)) (set (set w (slot left) 35) (slot left + 1) (get_or img (at + 1) 0)) w' (slot left + 2) → First img w w' at n left part need next (Typed next need)
+      pub cell_go : (w' : List ℕ) → p - (at + 2) ≤ 254 → Copied img (at + 2) (p - (at + 2)) (set (set w (slot left) 35) (slot left + 1) (get_or img (at + 1) 0)) w' (slot left + 2) → First img w w' at n left part need next (gives next need)
       unfolding after1 ty_size
       cell_go w' l c =
           let F = facts1 in
@@ -87,7 +87,7 @@ module _ {img w : List ℕ} {at n left : ℕ} (O : Some1 img w at n left) (ez : 
             kept = k₃;
             says = λ v x G pl t I s.
                 let s₁ : need < 2 ^ n = subst (λ (k : ℕ). need < 2 ^ k) (flat_locks (get_or img at 0) n 6 ez (λ y. omega arith)) s in
-                by_it v x (λ x. Out w' left n next (after1 x t need) (Typed next need)) G
+                by_it v x (λ x. Out w' left n next (after1 x t need) (gives next need)) G
                 (λ k t₁ a p₀ g hk kn h wt.
                 let q : subtype t t₁ ≡ true = sym (sub_is t t₁) ∙ (cmp_next (slot (left - 1) + ty_size t) q₀ (related below t t₁) (sym f ∙ says D t t₁ I.there h)).0 in
                 let z = d t₁ h in

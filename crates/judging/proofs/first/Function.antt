@@ -21,7 +21,9 @@ use Rattle.judging.specs.Shift.{Within}
 use Rattle.reading.specs.Placed as e
 use Rattle.reading.specs.Placed.{Exp, place_of}
 use Rattle.reading.specs.Walk.{locks1}
-use Rattle.judging.specs.declared.work.Answer.TheVariants.{Typed, Refused}
+use Rattle.std.specs.Prelude.{Err}
+use Rattle.answers.specs.declared.Refusal.TheVariants.{OwnTypeLong, UndeclaredNeed}
+use Rattle.judging.specs.Answer.{gives}
 use Rattle.types.proofs.subtype.SetBits.{within_and}
 use Rattle.judging.specs.Phases.{after1}
 use Rattle.judging.specs.Work.{slot}
@@ -60,33 +62,33 @@ module _ {img w : List ℕ} {at n left : ℕ} (O : Some1 img w at n left) (ez : 
   fits need p zs sm s z = within_and need s (need_small need sm) ∙ eq-eqb (bit_and need s) need (ap (bit_and need) (sym z) ∙ zs)
 
   module _ {part need next p : ℕ} (d : Ends img (at + 1) p) where
-    pub lam_13 : (bit_and need (word32 img p) ≡ need → ⊥) → First img w w at n left part need next (Refused 13 at)
+    pub lam_13 : (bit_and need (word32 img p) ≡ need → ⊥) → First img w w at n left part need next (Err (UndeclaredNeed at))
     unfolding after1
     lam_13 z =
         record {
           kept = kept_refl w (slot left) (slot left + 256);
           says = λ v x G pl t I sm.
-              by_f v x (λ x. Out w left n next (after1 x t need) (Refused 13 at)) G
+              by_f v x (λ x. Out w left n next (after1 x t need) (Err (UndeclaredNeed at))) G
               (λ a s y p₀ g h wt f k.
               let q : within need s ≡ false = within_and need s (need_small need sm) ∙ ne_eqb (bit_and need s) need (λ u. z (ap (bit_and need) (set_is d a s h f) ∙ u)) in
               rw (q, g));
         }
 
     module _ (inset : bit_and need (word32 img p) ≡ need) {q : ℕ} (dq : Ends w (slot (left - 1)) q) where
-      pub lam_10 : 251 < (p - (at + 1)) + (q - slot (left - 1)) → First img w w at n left part need next (Refused 10 at)
+      pub lam_10 : 251 < (p - (at + 1)) + (q - slot (left - 1)) → First img w w at n left part need next (Err (OwnTypeLong at))
       unfolding after1 ty_size
       lam_10 l =
           record {
             kept = kept_refl w (slot left) (slot left + 256);
             says = λ v x G pl t I sm.
-                by_f v x (λ x. Out w left n next (after1 x t need) (Refused 10 at)) G
+                by_f v x (λ x. Out w left n next (after1 x t need) (Err (OwnTypeLong at))) G
                 (λ a s y p₀ g h wt f k.
                 let z₁ = d a h in
                 let z₂ = dq t I.there in
                 rw (fits need p inset sm s (set_is d a s h f), lt-leb (ty_size a + ty_size t + 5) 256 (omega arith), g));
           }
 
-      pub lam_go : (o₁ o₂ o₄ w' : List ℕ) → (p - (at + 1)) + (q - slot (left - 1)) ≤ 251 → length o₁ ≡ 256 → Byte o₁ 0 36 → Copied img (at + 1) (p - (at + 1)) o₁ o₂ 1 → Copied w (slot (left - 1)) (q - slot (left - 1)) (put o₂ ((p - (at + 1)) + 1) (word32 img p)) o₄ ((p - (at + 1)) + 5) → Copied o₄ 0 ((p - (at + 1)) + (q - slot (left - 1)) + 5) w w' (slot left) → First img w w' at n left part need next (Typed next 0)
+      pub lam_go : (o₁ o₂ o₄ w' : List ℕ) → (p - (at + 1)) + (q - slot (left - 1)) ≤ 251 → length o₁ ≡ 256 → Byte o₁ 0 36 → Copied img (at + 1) (p - (at + 1)) o₁ o₂ 1 → Copied w (slot (left - 1)) (q - slot (left - 1)) (put o₂ ((p - (at + 1)) + 1) (word32 img p)) o₄ ((p - (at + 1)) + 5) → Copied o₄ 0 ((p - (at + 1)) + (q - slot (left - 1)) + 5) w w' (slot left) → First img w w' at n left part need next (gives next 0)
       unfolding after1 ty_size
       lam_go o₁ o₂ o₄ w' l lo b₁ c₂ c₄ c =
           let F = facts4 in
@@ -95,7 +97,7 @@ module _ {img w : List ℕ} {at n left : ℕ} (O : Some1 img w at n left) (ez : 
           record {
             kept = kept_wider c.kept (slot left) (slot left + 256) (omega arith) (omega arith);
             says = λ v x G pl t I sm.
-                by_f v x (λ x. Out w' left n next (after1 x t need) (Typed next 0)) G
+                by_f v x (λ x. Out w' left n next (after1 x t need) (gives next 0)) G
                 (λ a s y p₀ g h wt f k.
                 let z₁ : p ≡ at + 1 + ty_size a = d a h in
                 let z₂ : q ≡ slot (left - 1) + ty_size t = dq t I.there in

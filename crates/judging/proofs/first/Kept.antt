@@ -16,7 +16,9 @@ use Rattle.judging.specs.Copies.{Movable, Moved}
 use Rattle.reading.specs.Placed.{Exp, place_of}
 use Rattle.reading.specs.Walk.{locks1}
 use Rattle.judging.specs.Rules.{typed, refused, test, as_fun, as_ref, as_lock, as_int}
-use Rattle.judging.specs.declared.work.Answer.TheVariants.{Typed, Refused}
+use Rattle.std.specs.Prelude.{Err}
+use Rattle.answers.specs.declared.Refusal.TheVariants.{OtherForm, ForkNeeds}
+use Rattle.judging.specs.Answer.{gives}
 use Rattle.judging.specs.Phases.{parts_of, after1}
 use Rattle.judging.specs.Work.{slot}
 use Rattle.judging.specs.Contract.{Out, Given, First, Some1, place1, Due, due5, due8, due11, due14, due15}
@@ -133,7 +135,7 @@ module _ {img w : List ℕ} {at n left : ℕ} (O : Some1 img w at n left) where
 
   module _ {part need next : ℕ} where
     -- the part's code is not the one due
-    pub due_stop : (k : ℕ) → Due (get_or img at 0) k → (get_or w (slot (left - 1)) 0 ≡ k → ⊥) → First img w w at n left part need next (Refused 11 part)
+    pub due_stop : (k : ℕ) → Due (get_or img at 0) k → (get_or w (slot (left - 1)) 0 ≡ k → ⊥) → First img w w at n left part need next (Err (OtherForm part))
     due_stop k D z =
         record {
           kept = kept_refl w (slot left) (slot left + 256);
@@ -144,7 +146,7 @@ module _ {img w : List ℕ} {at n left : ℕ} (O : Some1 img w at n left) where
               rw y;
         }
 
-    pub due_first : (k : ℕ) (w' : List ℕ) → Due (get_or img at 0) k → get_or w (slot (left - 1)) 0 ≡ k → Moved w w' (slot (left - 1)) (slot left) → First img w w' at n left part need next (Typed next need)
+    pub due_first : (k : ℕ) (w' : List ℕ) → Due (get_or img at 0) k → get_or w (slot (left - 1)) 0 ≡ k → Moved w w' (slot (left - 1)) (slot left) → First img w w' at n left part need next (gives next need)
     due_first k w' D z c =
         let F = facts in
         record {
@@ -157,7 +159,7 @@ module _ {img w : List ℕ} {at n left : ℕ} (O : Some1 img w at n left) where
               rw y (refl, slot_moved w w' left n t c (rw l at I), rw l at s);
         }
 
-    pub int_first : Due (get_or img at 0) 33 → get_or w (slot (left - 1)) 0 ≡ 33 → First img w (set w (slot left) 33) at n left part need next (Typed next need)
+    pub int_first : Due (get_or img at 0) 33 → get_or w (slot (left - 1)) 0 ≡ 33 → First img w (set w (slot left) 33) at n left part need next (gives next need)
     unfolding ty_size
     int_first D z =
         let F = facts in
@@ -171,17 +173,17 @@ module _ {img w : List ℕ} {at n left : ℕ} (O : Some1 img w at n left) where
               rw y (refl, record { there = (omega (arith, length-set w (slot left) 33), get_or-set_same w (slot left) 33 0 (omega arith)); within = tt; short = omega arith }, rw l at s);
         }
 
-    pub fork_stop : get_or img at 0 ≡ 9 → (need ≡ 0 → ⊥) → First img w w at n left part need next (Refused 14 at)
+    pub fork_stop : get_or img at 0 ≡ 9 → (need ≡ 0 → ⊥) → First img w w at n left part need next (Err (ForkNeeds at))
     unfolding after1
     fork_stop e z =
         record {
           kept = kept_refl w (slot left) (slot left + 256);
           says = λ v x G pl t I s.
               let W = read_whole left v n img at x G.next G.reads in
-              by_fork (λ x. place_of x ≡ at → Out w left n next (after1 x t need) (Refused 14 at)) x (W.is.coded ∙ e) (λ p a y. rw (ne_eqb need 0 z, y)) W.is.place;
+              by_fork (λ x. place_of x ≡ at → Out w left n next (after1 x t need) (Err (ForkNeeds at))) x (W.is.coded ∙ e) (λ p a y. rw (ne_eqb need 0 z, y)) W.is.place;
         }
 
-    pub fork_first : get_or img at 0 ≡ 9 → need ≡ 0 → First img w (set w (slot left) 32) at n left part need next (Typed next 0)
+    pub fork_first : get_or img at 0 ≡ 9 → need ≡ 0 → First img w (set w (slot left) 32) at n left part need next (gives next need)
     unfolding after1 ty_size
     fork_first e z =
         let F = facts in
@@ -189,7 +191,7 @@ module _ {img w : List ℕ} {at n left : ℕ} (O : Some1 img w at n left) where
           kept = kept_wider (kept_set w (slot left) 32) (slot left) (slot left + 256) (omega arith) (omega arith);
           says = λ v x G pl t I s.
               let W = read_whole left v n img at x G.next G.reads in
-              by_fork (λ x. Out (set w (slot left) 32) left n next (after1 x t need) (Typed next 0)) x (W.is.coded ∙ e)
+              by_fork (λ x. Out (set w (slot left) 32) left n next (after1 x t need) (gives next need)) x (W.is.coded ∙ e)
               (λ p a. rw (eq-eqb need 0 z)
-              (refl, record { there = (omega (arith, length-set w (slot left) 32), get_or-set_same w (slot left) 32 0 (omega arith)); within = tt; short = omega arith }, pow_pos n));
+              (ap (gives next) z, record { there = (omega (arith, length-set w (slot left) 32), get_or-set_same w (slot left) 32 0 (omega arith)); within = tt; short = omega arith }, pow_pos n));
         }

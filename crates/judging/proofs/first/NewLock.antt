@@ -15,13 +15,14 @@ use Rattle.judging.specs.Holds.{Kept}
 use Rattle.judging.proofs.Held.{kept_wider, kept_then}
 use Rattle.judging.specs.Copies.{Moved}
 use Rattle.judging.specs.Shift.{Within, Lowerable, Lowered, Lowers}
-use Rattle.judging.specs.declared.shift.Low.{Low}
-use Rattle.judging.specs.declared.shift.Low.TheVariants.{Next, Mentions}
+use Rattle.std.specs.Prelude.{Option, Some, None}
 use Rattle.judging.proofs.shift.Lowering.{lower_size, low_mentions, low_next}
 use Rattle.reading.specs.Placed.{Exp, place_of}
 use Rattle.reading.specs.Walk.{locks1}
 use Rattle.reading.proofs.first.Laws.{lock_room}
-use Rattle.judging.specs.declared.work.Answer.TheVariants.{Typed, Refused}
+use Rattle.std.specs.Prelude.{Err}
+use Rattle.answers.specs.declared.Refusal.TheVariants.{LockInType, LockInNeed}
+use Rattle.judging.specs.Answer.{gives}
 use Rattle.judging.proofs.SetBits.{odd_has, even_has}
 use Rattle.judging.specs.Phases.{after1}
 use Rattle.judging.specs.Work.{slot, InSlot}
@@ -73,7 +74,7 @@ module _ {img w : List ℕ} {at n left : ℕ} (O : Some1 img w at n left) where
   pub lock_able : (w₁ : List ℕ) → get_or img at 0 ≡ 10 → Moved w w₁ (slot (left - 1)) (slot left) → Lowerable w₁ (slot left)
   lock_able w₁ e c = let h = lock_given w₁ e c O.3 O.4 in (n + 1, few_locks e, O.3, h.0, h.1)
 
-  module _ {w₁ w₂ : List ℕ} {r : Low} (e : get_or img at 0 ≡ 10) (c : Moved w w₁ (slot (left - 1)) (slot left)) (d : Lowers w₁ w₂ (slot left) r) where
+  module _ {w₁ w₂ : List ℕ} {r : Option ℕ} (e : get_or img at 0 ≡ 10) (c : Moved w w₁ (slot (left - 1)) (slot left)) (d : Lowers w₁ w₂ (slot left) r) where
     low_at : (t : Ty) → InSlot w (left - 1) (n + locks1 (get_or img at 0)) t → n + 1 ≤ 32 → Lowered w₁ w₂ (slot left) r t
     low_at t I l = let h = lock_given w₁ e c t I in d (n + 1) l t h.0 h.1
 
@@ -83,7 +84,7 @@ module _ {img w : List ℕ} {at n left : ℕ} (O : Some1 img w at n left) where
     place_is : (v : ℕ) (x : Exp) → Given img w at v n left x → place_of x ≡ at
     place_is v x G = (read_whole left v n img at x G.next G.reads).is.place
 
-    pub lock_15 : {part need next : ℕ} → r ≡ Mentions → First img w w₂ at n left part need next (Refused 15 at)
+    pub lock_15 : {part need next : ℕ} → r ≡ None → First img w w₂ at n left part need next (Err (LockInType at))
     unfolding after1
     lock_15 {part} {need} {next} f =
         record {
@@ -91,23 +92,23 @@ module _ {img w : List ℕ} {at n left : ℕ} (O : Some1 img w at n left) where
           says = λ v x G pl t I s.
               let D = low_at t I (few_locks e) in
               let y : mentions t ≡ true = low_mentions (slot left + ty_size t) (mentions t) (sym f ∙ D.answer) in
-              by_new_lock (λ x. place_of x ≡ at → Out w₂ left n next (after1 x t need) (Refused 15 at)) x (coded O v x G ∙ e) (λ p a q. rw (y, q)) (place_is v x G);
+              by_new_lock (λ x. place_of x ≡ at → Out w₂ left n next (after1 x t need) (Err (LockInType at))) x (coded O v x G ∙ e) (λ p a q. rw (y, q)) (place_is v x G);
         }
 
-    module _ {p : ℕ} (f : r ≡ Next p) where
+    module _ {p : ℕ} (f : r ≡ Some p) where
       free : (t : Ty) → InSlot w (left - 1) (n + locks1 (get_or img at 0)) t → mentions t ≡ false
       free t I = (low_next (slot left + ty_size t) p (mentions t) (sym f ∙ (low_at t I (few_locks e)).answer)).0
 
-      pub lock_16 : {part need next : ℕ} → (need % 2 ≡ 0 → ⊥) → First img w w₂ at n left part need next (Refused 16 at)
+      pub lock_16 : {part need next : ℕ} → (need % 2 ≡ 0 → ⊥) → First img w w₂ at n left part need next (Err (LockInNeed at))
       unfolding after1
       lock_16 {part} {need} {next} z =
           record {
             kept = kept_both;
             says = λ v x G pl t I s.
-                by_new_lock (λ x. place_of x ≡ at → Out w₂ left n next (after1 x t need) (Refused 16 at)) x (coded O v x G ∙ e) (λ p a q. rw (free t I, odd_has need z, q)) (place_is v x G);
+                by_new_lock (λ x. place_of x ≡ at → Out w₂ left n next (after1 x t need) (Err (LockInNeed at))) x (coded O v x G ∙ e) (λ p a q. rw (free t I, odd_has need z, q)) (place_is v x G);
           }
 
-      pub lock_first : {part need next : ℕ} → need % 2 ≡ 0 → First img w w₂ at n left part need next (Typed next (need / 2))
+      pub lock_first : {part need next : ℕ} → need % 2 ≡ 0 → First img w w₂ at n left part need next (gives next (need / 2))
       unfolding after1 locks1 lowered
       lock_first {part} {need} {next} z =
           record {
@@ -115,7 +116,7 @@ module _ {img w : List ℕ} {at n left : ℕ} (O : Some1 img w at n left) where
             says = λ v x G pl t I s.
                 let D = low_at t I (few_locks e) in
                 let m : need < 2 ^ (n + 1) = rw e at s in
-                by_new_lock (λ x. Out w₂ left n next (after1 x t need) (Typed next (need / 2))) x (coded O v x G ∙ e)
+                by_new_lock (λ x. Out w₂ left n next (after1 x t need) (gives next (need / 2))) x (coded O v x G ∙ e)
                 (λ p a. rw (free t I, even_has need z)
                 (refl, record { there = D.holds (free t I); within = lower_within n t (lock_given w₁ e c t I).1 (free t I); short = rw (lower_size t) I.short }, half_small n need m));
           }

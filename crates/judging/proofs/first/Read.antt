@@ -16,7 +16,9 @@ use Rattle.judging.specs.Shift.{Within}
 use Rattle.reading.specs.Placed.{Exp, place_of}
 use Rattle.reading.specs.Walk.{locks1}
 use Rattle.judging.specs.Rules.{Judged, typed, refused, as_ref}
-use Rattle.judging.specs.declared.work.Answer.TheVariants.{Typed, Refused}
+use Rattle.std.specs.Prelude.{Err}
+use Rattle.answers.specs.declared.Refusal.TheVariants.{OtherForm}
+use Rattle.judging.specs.Answer.{gives}
 use Rattle.judging.proofs.Gone.{gone, two_needs, just_small}
 use Rattle.judging.specs.Phases.{parts_of, after1}
 use Rattle.judging.specs.Work.{slot, InSlot}
@@ -60,17 +62,17 @@ module _ {img w : List ℕ} {at n left : ℕ} (O : Some1 img w at n left) (e : g
   coded v x G = (read_whole left v n img at x G.next G.reads).is.coded ∙ e
 
   module _ {part need next : ℕ} where
-    pub read_stop : (get_or w (slot (left - 1)) 0 ≡ 35 → ⊥) → First img w w at n left part need next (Refused 11 part)
+    pub read_stop : (get_or w (slot (left - 1)) 0 ≡ 35 → ⊥) → First img w w at n left part need next (Err (OtherForm part))
     unfolding after1
     read_stop z =
         record {
           kept = kept_refl w (slot left) (slot left + 256);
           says = λ v x G pl t I s.
-              by_read (λ x. place1 (parts_of x) ≡ part → Out w left n next (after1 x t need) (Refused 11 part)) x (coded v x G)
+              by_read (λ x. place1 (parts_of x) ≡ part → Out w left n next (after1 x t need) (Err (OtherForm part))) x (coded v x G)
               (λ p a pl. rw (not_ref w (slot (left - 1)) t (place_of a) (λ k c. typed c (union need (single k))) I.there z, pl)) pl;
         }
 
-    pub read_go : (w' : List ℕ) → get_or w (slot (left - 1)) 0 ≡ 35 → Moved w w' (slot (left - 1) + 2) (slot left) → First img w w' at n left part need next (Typed next (bit_or need (single (get_or w (slot (left - 1) + 1) 0))))
+    pub read_go : (w' : List ℕ) → get_or w (slot (left - 1)) 0 ≡ 35 → Moved w w' (slot (left - 1) + 2) (slot left) → First img w w' at n left part need next (gives next (bit_or need (single (get_or w (slot (left - 1) + 1) 0))))
     unfolding after1 as_ref ty_size
     read_go w' z c =
         let F = facts1 in
@@ -79,9 +81,9 @@ module _ {img w : List ℕ} {at n left : ℕ} (O : Some1 img w at n left) (e : g
           says = λ v x G pl t I₀ s₀.
               let I = flat t I₀ in
               let s : need < 2 ^ n = subst (λ (k : ℕ). need < 2 ^ k) (locks1_7 (get_or img at 0) n e) s₀ in
-              by_ref (λ t. Within n t → ty_size t ≤ 256 → Out w' left n next (after1 x t need) (Typed next (bit_or need (single (get_or w (slot (left - 1) + 1) 0))))) w (slot (left - 1)) t I.there z
+              by_ref (λ t. Within n t → ty_size t ≤ 256 → Out w' left n next (after1 x t need) (gives next (bit_or need (single (get_or w (slot (left - 1) + 1) 0))))) w (slot (left - 1)) t I.there z
               (λ k t hk ht wt st.
-              by_read (λ x. Out w' left n next (after1 x (ref k t) need) (Typed next (bit_or need (single (get_or w (slot (left - 1) + 1) 0))))) x (coded v x G)
+              by_read (λ x. Out w' left n next (after1 x (ref k t) need) (gives next (bit_or need (single (get_or w (slot (left - 1) + 1) 0))))) x (coded v x G)
               (λ p a. rw hk.1
               (let jk = just_small n k wt.0 in gone n (bit_or need (single k)) (union need (single k)) (InSlot w' left n t) (two_needs n need (single k) G.few s jk) (or_lt n need (single k) s jk) (record { there = c.holds t ht; within = wt.1; short = omega arith }))))
               I.within I.short;

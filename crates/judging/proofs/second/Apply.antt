@@ -15,12 +15,12 @@ use Rattle.judging.proofs.Held.{kept_refl}
 use Rattle.judging.specs.Copies.{Movable, Moved, Ends}
 use Rattle.judging.specs.Shift.{Within}
 use Rattle.types.specs.Subtype.{Related}
-use Rattle.types.specs.declared.subtype.Cmp.{Cmp}
-use Rattle.types.specs.declared.subtype.Cmp.TheVariants.{Next, Differ}
 use Rattle.types.proofs.subtype.Says.{says, cmp_next, cmp_differ, sub_is}
 use Rattle.reading.specs.Placed.{Exp, place_of}
 use Rattle.judging.specs.Rules.{typed, as_fun}
-use Rattle.judging.specs.declared.work.Answer.TheVariants.{Typed, Refused}
+use Rattle.std.specs.Prelude.{Option, Some, None, Err}
+use Rattle.answers.specs.declared.Refusal.TheVariants.{NotSubtype}
+use Rattle.judging.specs.Answer.{gives}
 use Rattle.judging.proofs.Gone.{gone, three_needs}
 use Rattle.judging.specs.Phases.{parts_of, after1, after2}
 use Rattle.judging.specs.Work.{slot, InSlot}
@@ -64,31 +64,31 @@ module _ {img w : List ℕ} {at n left : ℕ} (O : Some2 img w at n left) where
     result_movable p d = by_slot (λ k. Movable w (p + 4) (slot left)) O.3 mine O.4
         (λ a s y ha hs hy wy z sm. let F = facts O in let q : p ≡ slot left + 1 + ty_size a = d a ha in (y, rw q hy, omega arith, omega arith, inl (omega arith)))
 
-    module _ {part m need next : ℕ} {r : Cmp} (D : Related w (slot (left - 1)) w (slot left + 1) below r) where
-      pub app_stop : r ≡ Differ → Second img w w at n left part m need next (Refused 12 part)
+    module _ {part m need next : ℕ} {r : Option ℕ} (D : Related w (slot (left - 1)) w (slot left + 1) below r) where
+      pub app_stop : r ≡ None → Second img w w at n left part m need next (Err (NotSubtype part))
       unfolding after2 as_fun
       app_stop f =
           record {
             kept = kept_refl w (slot left) (slot left + 256);
             says = λ v x G pl k K I sm u J su.
-                by_slot (λ k. Out w left n next (after2 x k m u need) (Refused 12 part)) k (kept_fun x k m (coded O v x G ∙ e) K) I (λ a s y ha hs hy wy z sy.
+                by_slot (λ k. Out w left n next (after2 x k m u need) (Err (NotSubtype part))) k (kept_fun x k m (coded O v x G ∙ e) K) I (λ a s y ha hs hy wy z sy.
                 let q : subtype u a ≡ false = sym (sub_is u a) ∙ cmp_differ (slot (left - 1) + ty_size u) (related below u a) (sym f ∙ says D u a J.there ha) in
-                by_app (λ x. place2 (parts_of x) ≡ part → Out w left n next (after2 x (fun a s y) m u need) (Refused 12 part)) x (coded O v x G ∙ e) (λ p₀ a₀ b₀ pl. rw (q, pl)) pl);
+                by_app (λ x. place2 (parts_of x) ≡ part → Out w left n next (after2 x (fun a s y) m u need) (Err (NotSubtype part))) x (coded O v x G ∙ e) (λ p₀ a₀ b₀ pl. rw (q, pl)) pl);
           }
 
-      pub app_go : (q₀ p : ℕ) (w' : List ℕ) → r ≡ Next q₀ → Ends w (slot left + 1) p → Moved w w' (p + 4) (slot left) → Second img w w' at n left part m need next (Typed next (bit_or (bit_or m need) (word32 w p)))
+      pub app_go : (q₀ p : ℕ) (w' : List ℕ) → r ≡ Some q₀ → Ends w (slot left + 1) p → Moved w w' (p + 4) (slot left) → Second img w w' at n left part m need next (gives next (bit_or (bit_or m need) (word32 w p)))
       unfolding after2 as_fun ty_size
       app_go q₀ p w' f d c =
           let F = facts O in
           record {
             kept = c.kept;
             says = λ v x G pl k K I sm u J su.
-                by_slot (λ k. Out w' left n next (after2 x k m u need) (Typed next (bit_or (bit_or m need) (word32 w p)))) k (kept_fun x k m (coded O v x G ∙ e) K) I (λ a s y ha hs hy wy z sy.
+                by_slot (λ k. Out w' left n next (after2 x k m u need) (gives next (bit_or (bit_or m need) (word32 w p)))) k (kept_fun x k m (coded O v x G ∙ e) K) I (λ a s y ha hs hy wy z sy.
                 let q : subtype u a ≡ true = sym (sub_is u a) ∙ (cmp_next (slot (left - 1) + ty_size u) q₀ (related below u a) (sym f ∙ says D u a J.there ha)).0 in
                 let pz : p ≡ slot left + 1 + ty_size a = d a ha in
                 let sz : word32 w p ≡ s = ap (word32 w) pz ∙ hs.1 in
                 let hy₁ : Holds w (p + 4) y = rw pz hy in
-                by_app (λ x. Out w' left n next (after2 x (fun a s y) m u need) (Typed next (bit_or (bit_or m need) (word32 w p)))) x (coded O v x G ∙ e) (λ p₀ a₀ b₀. rw (q, sz)
+                by_app (λ x. Out w' left n next (after2 x (fun a s y) m u need) (gives next (bit_or (bit_or m need) (word32 w p)))) x (coded O v x G ∙ e) (λ p₀ a₀ b₀. rw (q, sz)
                 (gone n (bit_or (bit_or m need) s) (union (union m need) s) (InSlot w' left n y) (three_needs n m need G.few sm su s sy) (or_lt n (bit_or m need) s (or_lt n m need sm su) sy)
                 (record { there = c.holds y hy₁; within = wy; short = omega arith }))));
           }

@@ -12,12 +12,12 @@ use Rattle.paper.specs.Types.{Ty, unit, ty_size, subtype, related, below}
 use Rattle.types.specs.Holds.{Holds}
 use Rattle.judging.proofs.Held.{kept_refl, kept_wider, kept_set}
 use Rattle.types.specs.Subtype.{Related}
-use Rattle.types.specs.declared.subtype.Cmp.{Cmp}
-use Rattle.types.specs.declared.subtype.Cmp.TheVariants.{Next, Differ}
 use Rattle.types.proofs.subtype.Says.{says, cmp_next, cmp_differ, sub_is}
 use Rattle.reading.specs.Placed as e
 use Rattle.reading.specs.Placed.{Exp, place_of}
-use Rattle.judging.specs.declared.work.Answer.TheVariants.{Typed, Refused}
+use Rattle.std.specs.Prelude.{Option, Some, None, Err}
+use Rattle.answers.specs.declared.Refusal.TheVariants.{NotSubtype}
+use Rattle.judging.specs.Answer.{gives}
 use Rattle.judging.proofs.Gone.{gone, two_needs}
 use Rattle.judging.specs.Phases.{parts_of, after2}
 use Rattle.judging.specs.Work.{slot, InSlot}
@@ -32,25 +32,25 @@ by_cond {img} {w} {at} {n} {left} ez v x P G f =
     let W = read_whole left v n img at x G.next G.reads in
     by_if_not0 (λ x. Facts v n img x → place_of x ≡ at → P x) x (W.is.coded ∙ ez) (λ p t a c d F g. f t a c d p (subst (λ (z : ℕ). Holds img (z + 1) t) g F.1.is.holds)) W.is.facts W.is.place
 
-module _ {img w : List ℕ} {at n left part m need next : ℕ} {r : Cmp} (O : Some2 img w at n left) (D : Related w (slot (left - 1)) img (at + 1) below r) (ez : get_or img at 0 ≡ 15) where
-  pub cond_stop : r ≡ Differ → Second img w w at n left part m need next (Refused 12 part)
+module _ {img w : List ℕ} {at n left part m need next : ℕ} {r : Option ℕ} (O : Some2 img w at n left) (D : Related w (slot (left - 1)) img (at + 1) below r) (ez : get_or img at 0 ≡ 15) where
+  pub cond_stop : r ≡ None → Second img w w at n left part m need next (Err (NotSubtype part))
   unfolding after2
   cond_stop f =
       record {
         kept = kept_refl w (slot left) (slot left + 256);
         says = λ v x G pl k K I sm u J su.
-            by_cond ez v x (λ x. place2 (parts_of x) ≡ part → Out w left n next (after2 x k m u need) (Refused 12 part)) G
+            by_cond ez v x (λ x. place2 (parts_of x) ≡ part → Out w left n next (after2 x k m u need) (Err (NotSubtype part))) G
             (λ t a c d p h pl. let q : subtype u t ≡ false = sym (sub_is u t) ∙ cmp_differ (slot (left - 1) + ty_size u) (related below u t) (sym f ∙ says D u t J.there h) in rw (q, pl)) pl;
       }
 
-  pub cond_go : (q₀ : ℕ) → r ≡ Next q₀ → Second img w (set w (slot left) 32) at n left part m need next (Typed next (bit_or m need))
+  pub cond_go : (q₀ : ℕ) → r ≡ Some q₀ → Second img w (set w (slot left) 32) at n left part m need next (gives next (bit_or m need))
   unfolding after2 ty_size
   cond_go q₀ f =
       let F = facts O in
       record {
         kept = kept_wider (kept_set w (slot left) 32) (slot left) (slot left + 256) (omega arith) (omega arith);
         says = λ v x G pl k K I sm u J su.
-            by_cond ez v x (λ x. Out (set w (slot left) 32) left n next (after2 x k m u need) (Typed next (bit_or m need))) G
+            by_cond ez v x (λ x. Out (set w (slot left) 32) left n next (after2 x k m u need) (gives next (bit_or m need))) G
             (λ t a c₀ d p h. let q : subtype u t ≡ true = sym (sub_is u t) ∙ (cmp_next (slot (left - 1) + ty_size u) q₀ (related below u t) (sym f ∙ says D u t J.there h)).0 in
             rw q (gone n (bit_or m need) (union m need) (InSlot (set w (slot left) 32) left n unit) (two_needs n m need G.few sm su) (or_lt n m need sm su)
             (record { there = (omega (arith, length-set w (slot left) 32), get_or-set_same w (slot left) 32 0 (omega arith)); within = tt; short = omega arith })));

@@ -13,7 +13,9 @@ use Rattle.judging.proofs.Held.{kept_refl, kept_wider, kept_set}
 use Rattle.judging.specs.Copies.{Movable, Moved}
 use Rattle.reading.specs.Placed.{Exp, place_of}
 use Rattle.judging.specs.Rules.{Judged, typed, refused, as_lock, as_int}
-use Rattle.judging.specs.declared.work.Answer.TheVariants.{Typed, Refused}
+use Rattle.std.specs.Prelude.{Err}
+use Rattle.answers.specs.declared.Refusal.TheVariants.{OtherForm}
+use Rattle.judging.specs.Answer.{gives}
 use Rattle.judging.proofs.Gone.{gone, two_needs, less_small}
 use Rattle.judging.specs.Phases.{parts_of, after1, after2}
 use Rattle.judging.specs.Work.{slot, InSlot}
@@ -72,7 +74,7 @@ module _ {img w : List ℕ} {at n left : ℕ} (O : Some2 img w at n left) where
       go k (is_lock a) I = omega (arith, I.there.1.1, I.within, O.2.few)
 
   module _ {part m need next : ℕ} where
-    pub sync_second : (w' : List ℕ) → get_or img at 0 ≡ 11 → Moved w w' (slot (left - 1)) (slot left) → Second img w w' at n left part m need next (Typed next (bit_or m (less need (single (get_or w (slot left + 1) 0)))))
+    pub sync_second : (w' : List ℕ) → get_or img at 0 ≡ 11 → Moved w w' (slot (left - 1)) (slot left) → Second img w w' at n left part m need next (gives next (bit_or m (less need (single (get_or w (slot left + 1) 0)))))
     unfolding after2 as_lock
     sync_second w' e c =
         let F = facts in
@@ -81,31 +83,31 @@ module _ {img w : List ℕ} {at n left : ℕ} (O : Some2 img w at n left) where
           says = λ v x G pl k K I sm u J su. go v x G k (kept_lock x k m (coded v x G ∙ e) K) I sm u J su;
         }
       where
-        go : (v : ℕ) (x : Exp) → Given img w at v n left x → (k : Ty) → IsLock k → InSlot w left n k → m < 2 ^ n → (u : Ty) → InSlot w (left - 1) n u → need < 2 ^ n → Out w' left n next (after2 x k m u need) (Typed next (bit_or m (less need (single (get_or w (slot left + 1) 0)))))
+        go : (v : ℕ) (x : Exp) → Given img w at v n left x → (k : Ty) → IsLock k → InSlot w left n k → m < 2 ^ n → (u : Ty) → InSlot w (left - 1) n u → need < 2 ^ n → Out w' left n next (after2 x k m u need) (gives next (bit_or m (less need (single (get_or w (slot left + 1) 0)))))
         go v x G k (is_lock a) I sm u J su =
             let F = facts in
             let z : get_or w (slot left + 1) 0 ≡ a = I.there.1.1 in
-            by_sync (λ x. Out w' left n next (after2 x (lock a) m u need) (Typed next (bit_or m (less need (single (get_or w (slot left + 1) 0)))))) x (coded v x G ∙ e)
+            by_sync (λ x. Out w' left n next (after2 x (lock a) m u need) (gives next (bit_or m (less need (single (get_or w (slot left + 1) 0)))))) x (coded v x G ∙ e)
             (λ p₀ a₀ c₀. let sl = less_small n need (single a) G.few su in rw z (gone n (bit_or m (less need (single a))) (union m (less need (single a))) (InSlot w' left n u) (two_needs n m (less need (single a)) G.few sm sl) (or_lt n m (less need (single a)) sm sl) (slot_moved w w' left n u c J)))
 
-    pub add_stop : get_or img at 0 ≡ 14 → (get_or w (slot (left - 1)) 0 ≡ 33 → ⊥) → Second img w w at n left part m need next (Refused 11 part)
+    pub add_stop : get_or img at 0 ≡ 14 → (get_or w (slot (left - 1)) 0 ≡ 33 → ⊥) → Second img w w at n left part m need next (Err (OtherForm part))
     unfolding after2
     add_stop e z =
         record {
           kept = kept_refl w (slot left) (slot left + 256);
           says = λ v x G pl k K I sm u J su.
-              by_add (λ x. place2 (parts_of x) ≡ part → Out w left n next (after2 x k m u need) (Refused 11 part)) x (coded v x G ∙ e)
+              by_add (λ x. place2 (parts_of x) ≡ part → Out w left n next (after2 x k m u need) (Err (OtherForm part))) x (coded v x G ∙ e)
               (λ p₀ a₀ c₀ pl. rw (not_33 w (slot (left - 1)) u (place_of c₀) (λ _. typed int (union m need)) J.there z, pl)) pl;
         }
 
-    pub add_go : get_or img at 0 ≡ 14 → get_or w (slot (left - 1)) 0 ≡ 33 → Second img w (set w (slot left) 33) at n left part m need next (Typed next (bit_or m need))
+    pub add_go : get_or img at 0 ≡ 14 → get_or w (slot (left - 1)) 0 ≡ 33 → Second img w (set w (slot left) 33) at n left part m need next (gives next (bit_or m need))
     unfolding after2 as_int ty_size
     add_go e z =
         let F = facts in
         record {
           kept = kept_wider (kept_set w (slot left) 33) (slot left) (slot left + 256) (omega arith) (omega arith);
           says = λ v x G pl k K I sm u J su.
-              tcode_33 w (slot (left - 1)) u J.there z (λ u. Out (set w (slot left) 33) left n next (after2 x k m u need) (Typed next (bit_or m need)))
-              (by_add (λ x. Out (set w (slot left) 33) left n next (after2 x k m int need) (Typed next (bit_or m need))) x (coded v x G ∙ e)
+              tcode_33 w (slot (left - 1)) u J.there z (λ u. Out (set w (slot left) 33) left n next (after2 x k m u need) (gives next (bit_or m need)))
+              (by_add (λ x. Out (set w (slot left) 33) left n next (after2 x k m int need) (gives next (bit_or m need))) x (coded v x G ∙ e)
               (λ p₀ a₀ c₀. gone n (bit_or m need) (union m need) (InSlot (set w (slot left) 33) left n int) (two_needs n m need G.few sm su) (or_lt n m need sm su) (record { there = (omega (arith, length-set w (slot left) 33), get_or-set_same w (slot left) 33 0 (omega arith)); within = tt; short = omega arith })));
         }

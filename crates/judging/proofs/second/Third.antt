@@ -14,12 +14,12 @@ use Rattle.judging.specs.Copies.{Copied, Ends}
 use Rattle.judging.proofs.copies.Laws.{holds_copied}
 use Rattle.judging.specs.Shift.{Within}
 use Rattle.types.specs.Subtype.{Related}
-use Rattle.types.specs.declared.subtype.Cmp.{Cmp}
-use Rattle.types.specs.declared.subtype.Cmp.TheVariants.{Next, Differ}
 use Rattle.types.proofs.subtype.Says.{says, cmp_next, cmp_differ, sub_is}
 use Rattle.reading.specs.Placed as e
 use Rattle.reading.specs.Placed.{Exp, place_of}
-use Rattle.judging.specs.declared.work.Answer.TheVariants.{Typed, Refused}
+use Rattle.std.specs.Prelude.{Option, Some, None, Err}
+use Rattle.answers.specs.declared.Refusal.TheVariants.{NotSubtype}
+use Rattle.judging.specs.Answer.{gives}
 use Rattle.judging.proofs.Gone.{gone, two_needs}
 use Rattle.judging.specs.Phases.{parts_of, after3}
 use Rattle.judging.specs.Work.{slot, InSlot}
@@ -47,18 +47,18 @@ module _ {img w : List ℕ} {at n left : ℕ} (O : Some3 img w at n left) where
   pub stated_room : (p : ℕ) → Ends img (at + 1) p → (at + 1 ≤ p) × (p - (at + 1) ≤ 256) × (p ≤ length img)
   stated_room p d = by_cond O.0 O.1 (λ x. (at + 1 ≤ p) × (p - (at + 1) ≤ 256) × (p ≤ length img)) O.2 (λ t a c₀ d₀ p₀ h w s. let z = d t h in (omega arith, omega arith, omega (arith, holds_end img (at + 1) t h)))
 
-  module _ {part m need next : ℕ} {r : Cmp} (D : Related w (slot (left - 1)) img (at + 1) below r) where
-    pub third_stop : r ≡ Differ → Third img w w at n left part m need next (Refused 12 part)
+  module _ {part m need next : ℕ} {r : Option ℕ} (D : Related w (slot (left - 1)) img (at + 1) below r) where
+    pub third_stop : r ≡ None → Third img w w at n left part m need next (Err (NotSubtype part))
     unfolding after3
     third_stop f =
         record {
           kept = kept_refl w (slot left) (slot left + 256);
           says = λ v x G pl sm u J su.
-              by_cond v x (λ x. place3 (parts_of x) ≡ part → Out w left n next (after3 x m u need) (Refused 12 part)) G
+              by_cond v x (λ x. place3 (parts_of x) ≡ part → Out w left n next (after3 x m u need) (Err (NotSubtype part))) G
               (λ t a c d p h wt s pl. let q : subtype u t ≡ false = sym (sub_is u t) ∙ cmp_differ (slot (left - 1) + ty_size u) (related below u t) (sym f ∙ says D u t J.there h) in rw (q, pl)) pl;
         }
 
-    pub third_go : (q₀ p : ℕ) (w' : List ℕ) → r ≡ Next q₀ → Ends img (at + 1) p → Copied img (at + 1) (p - (at + 1)) w w' (slot left) → Third img w w' at n left part m need next (Typed next (bit_or m need))
+    pub third_go : (q₀ p : ℕ) (w' : List ℕ) → r ≡ Some q₀ → Ends img (at + 1) p → Copied img (at + 1) (p - (at + 1)) w w' (slot left) → Third img w w' at n left part m need next (gives next (bit_or m need))
     unfolding after3
     third_go q₀ p w' f d c =
         let F = facts in
@@ -66,7 +66,7 @@ module _ {img w : List ℕ} {at n left : ℕ} (O : Some3 img w at n left) where
         record {
           kept = kept_wider c.kept (slot left) (slot left + 256) (omega arith) (omega (arith, S.1));
           says = λ v x G pl sm u J su.
-              by_cond v x (λ x. Out w' left n next (after3 x m u need) (Typed next (bit_or m need))) G
+              by_cond v x (λ x. Out w' left n next (after3 x m u need) (gives next (bit_or m need))) G
               (λ t a c₀ d₀ p₀ h wt s.
               let q : subtype u t ≡ true = sym (sub_is u t) ∙ (cmp_next (slot (left - 1) + ty_size u) q₀ (related below u t) (sym f ∙ says D u t J.there h)).0 in
               let z = d t h in

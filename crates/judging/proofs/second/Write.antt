@@ -11,12 +11,12 @@ use Rattle.paper.specs.Sets.{single, union}
 use Rattle.paper.specs.Types.{Ty, unit, int, lock, ref, fun, ty_size, subtype, related, below}
 use Rattle.judging.proofs.Held.{kept_refl, kept_wider, kept_set}
 use Rattle.types.specs.Subtype.{Related}
-use Rattle.types.specs.declared.subtype.Cmp.{Cmp}
-use Rattle.types.specs.declared.subtype.Cmp.TheVariants.{Next, Differ}
 use Rattle.types.proofs.subtype.Says.{says, cmp_next, cmp_differ, sub_is}
 use Rattle.reading.specs.Placed.{Exp, place_of}
 use Rattle.judging.specs.Rules.{typed, as_ref}
-use Rattle.judging.specs.declared.work.Answer.TheVariants.{Typed, Refused}
+use Rattle.std.specs.Prelude.{Option, Some, None, Err}
+use Rattle.answers.specs.declared.Refusal.TheVariants.{NotSubtype}
+use Rattle.judging.specs.Answer.{gives}
 use Rattle.judging.proofs.Gone.{gone, three_needs, just_small}
 use Rattle.judging.specs.Phases.{parts_of, after1, after2}
 use Rattle.judging.specs.Work.{slot, InSlot}
@@ -46,8 +46,8 @@ module _ {img w : List ℕ} {at n left : ℕ} (O : Some2 img w at n left) where
       go : (k : Ty) → IsRef k → InSlot w left n k → get_or w (slot left + 1) 0 < 32
       go k (is_ref a t) I = omega (arith, I.there.1.1, I.within.0, O.2.few)
 
-  module _ {part m need next : ℕ} {r : Cmp} (D : Related w (slot (left - 1)) w (slot left + 2) below r) (e : get_or img at 0 ≡ 8) where
-    pub write_stop : r ≡ Differ → Second img w w at n left part m need next (Refused 12 part)
+  module _ {part m need next : ℕ} {r : Option ℕ} (D : Related w (slot (left - 1)) w (slot left + 2) below r) (e : get_or img at 0 ≡ 8) where
+    pub write_stop : r ≡ None → Second img w w at n left part m need next (Err (NotSubtype part))
     unfolding after2 as_ref
     write_stop f =
         record {
@@ -55,12 +55,12 @@ module _ {img w : List ℕ} {at n left : ℕ} (O : Some2 img w at n left) where
           says = λ v x G pl k K I sm u J su. go v x G pl k (kept_ref x k m (coded O v x G ∙ e) K) I u J;
         }
       where
-        go : (v : ℕ) (x : Exp) → Given img w at v n left x → place2 (parts_of x) ≡ part → (k : Ty) → IsRef k → InSlot w left n k → (u : Ty) → InSlot w (left - 1) n u → Out w left n next (after2 x k m u need) (Refused 12 part)
+        go : (v : ℕ) (x : Exp) → Given img w at v n left x → place2 (parts_of x) ≡ part → (k : Ty) → IsRef k → InSlot w left n k → (u : Ty) → InSlot w (left - 1) n u → Out w left n next (after2 x k m u need) (Err (NotSubtype part))
         go v x G pl k (is_ref a t) I u J =
             let q : subtype u t ≡ false = sym (sub_is u t) ∙ cmp_differ (slot (left - 1) + ty_size u) (related below u t) (sym f ∙ says D u t J.there I.there.2) in
-            by_write (λ x. place2 (parts_of x) ≡ part → Out w left n next (after2 x (ref a t) m u need) (Refused 12 part)) x (coded O v x G ∙ e) (λ p₀ a₀ c₀ pl. rw (q, pl)) pl
+            by_write (λ x. place2 (parts_of x) ≡ part → Out w left n next (after2 x (ref a t) m u need) (Err (NotSubtype part))) x (coded O v x G ∙ e) (λ p₀ a₀ c₀ pl. rw (q, pl)) pl
 
-    pub write_go : (q₀ : ℕ) → r ≡ Next q₀ → Second img w (set w (slot left) 32) at n left part m need next (Typed next (bit_or (bit_or m need) (single (get_or w (slot left + 1) 0))))
+    pub write_go : (q₀ : ℕ) → r ≡ Some q₀ → Second img w (set w (slot left) 32) at n left part m need next (gives next (bit_or (bit_or m need) (single (get_or w (slot left + 1) 0))))
     unfolding after2 as_ref ty_size
     write_go q₀ f =
         record {
@@ -71,9 +71,9 @@ module _ {img w : List ℕ} {at n left : ℕ} (O : Some2 img w at n left) where
         unit_there : InSlot (set w (slot left) 32) left n unit
         unit_there = let F = facts O in record { there = (omega (arith, length-set w (slot left) 32), get_or-set_same w (slot left) 32 0 (omega arith)); within = tt; short = omega arith }
 
-        go : (v : ℕ) (x : Exp) → Given img w at v n left x → (k : Ty) → IsRef k → InSlot w left n k → m < 2 ^ n → (u : Ty) → InSlot w (left - 1) n u → need < 2 ^ n → Out (set w (slot left) 32) left n next (after2 x k m u need) (Typed next (bit_or (bit_or m need) (single (get_or w (slot left + 1) 0))))
+        go : (v : ℕ) (x : Exp) → Given img w at v n left x → (k : Ty) → IsRef k → InSlot w left n k → m < 2 ^ n → (u : Ty) → InSlot w (left - 1) n u → need < 2 ^ n → Out (set w (slot left) 32) left n next (after2 x k m u need) (gives next (bit_or (bit_or m need) (single (get_or w (slot left + 1) 0))))
         go v x G k (is_ref a t) I sm u J su =
             let q : subtype u t ≡ true = sym (sub_is u t) ∙ (cmp_next (slot (left - 1) + ty_size u) q₀ (related below u t) (sym f ∙ says D u t J.there I.there.2)).0 in
             let z : get_or w (slot left + 1) 0 ≡ a = I.there.1.1 in
-            by_write (λ x. Out (set w (slot left) 32) left n next (after2 x (ref a t) m u need) (Typed next (bit_or (bit_or m need) (single (get_or w (slot left + 1) 0))))) x (coded O v x G ∙ e)
+            by_write (λ x. Out (set w (slot left) 32) left n next (after2 x (ref a t) m u need) (gives next (bit_or (bit_or m need) (single (get_or w (slot left + 1) 0))))) x (coded O v x G ∙ e)
             (λ p₀ a₀ c₀. let ja = just_small n a I.within.0 in rw (q, z) (gone n (bit_or (bit_or m need) (single a)) (union (union m need) (single a)) (InSlot (set w (slot left) 32) left n unit) (three_needs n m need G.few sm su (single a) ja) (or_lt n (bit_or m need) (single a) (or_lt n m need sm su) ja) unit_there))

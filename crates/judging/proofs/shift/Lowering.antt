@@ -16,8 +16,7 @@ use Rattle.paper.specs.Types.{Ty, unit, int, lock, ref, fun, ty_size, lower, men
 use Rattle.types.specs.Holds.{Holds, Byte, Four}
 use Rattle.judging.specs.Holds.{put}
 use Rattle.judging.proofs.Held.{held, by_lock, by_ref, by_fun, by_leaf, holds_below, holds_above, four_below, four_above, byte_below, kept_wider, kept_then, kept_refl, kept_set, kept_put, four_put}
-use Rattle.judging.specs.declared.shift.Low.{Low}
-use Rattle.judging.specs.declared.shift.Low.TheVariants.{Next, Mentions}
+use Rattle.std.specs.Prelude.{Option, Some, None}
 use Rattle.judging.specs.Shift.{Within, Lowerable, low, Lowered, Lowers}
 
 pub lower_size : (t : Ty) → ty_size (lower t) ≡ ty_size t
@@ -32,11 +31,11 @@ or_true : (a : Bool) → (a || true) ≡ true
 or_true true = refl
 or_true false = refl
 
-pub low_mentions : (p : ℕ) (b : Bool) → Mentions ≡ low p b → b ≡ true
+pub low_mentions : (p : ℕ) (b : Bool) → None ≡ low p b → b ≡ true
 low_mentions p true e = refl
 low_mentions p false e = let z : ◌≡◌ {A = ℕ} 0 1 = cc in absurd (omega arith)
 
-pub low_next : (q p : ℕ) (b : Bool) → Next p ≡ low q b → (b ≡ false) × (p ≡ q)
+pub low_next : (q p : ℕ) (b : Bool) → Some p ≡ low q b → (b ≡ false) × (p ≡ q)
 low_next q p true e = let z : ◌≡◌ {A = ℕ} 0 1 = cc in absurd (omega arith)
 low_next q p false e = (refl, cc)
 
@@ -60,7 +59,7 @@ module _ (s : List ℕ) (at : ℕ) where
   pub low_arg : get_or s at 0 ≡ 36 → Lowerable s at → Lowerable s (at + 1)
   low_arg e h = by_fun (λ t. Within h.0 t → Lowerable s (at + 1)) s at h.2 h.3 e (λ a m b ha hm hb w. (h.0, h.1, a, ha, w.0)) h.4
 
-  module _ (e : get_or s at 0 ≡ 36) (h : Lowerable s at) (s₁ : List ℕ) {r : Low} (p : ℕ) (f : r ≡ Next p) (d : Lowers s s₁ (at + 1) r) where
+  module _ (e : get_or s at 0 ≡ 36) (h : Lowerable s at) (s₁ : List ℕ) {r : Option ℕ} (p : ℕ) (f : r ≡ Some p) (d : Lowers s s₁ (at + 1) r) where
     after_arg : (n : ℕ) → n ≤ 32 → (a : Ty) → Holds s (at + 1) a → Within n a → (mentions a ≡ false) × (p ≡ at + 1 + ty_size a)
     after_arg n l a ha w = low_next (at + 1 + ty_size a) p (mentions a) (sym f ∙ (d n l a ha w).answer)
 
@@ -86,10 +85,10 @@ module _ (s : List ℕ) (at : ℕ) where
         h.4
 
   -- ---- what it leaves
-  pub leaf : (get_or s at 0 ≡ 34 → ⊥) → (get_or s at 0 ≡ 35 → ⊥) → (get_or s at 0 ≡ 36 → ⊥) → Lowers s s at (Next (at + 1))
+  pub leaf : (get_or s at 0 ≡ 34 → ⊥) → (get_or s at 0 ≡ 35 → ⊥) → (get_or s at 0 ≡ 36 → ⊥) → Lowers s s at (Some (at + 1))
   unfolding lower mentions ty_size
   leaf e4 e5 e6 n l t h w =
-      by_leaf (λ t. Holds s at t → Lowered s s at (Next (at + 1)) t) s at t h e4 e5 e6
+      by_leaf (λ t. Holds s at t → Lowered s s at (Some (at + 1)) t) s at t h e4 e5 e6
       (λ e g. record { answer = refl; holds = λ _. g; kept = kept_refl s at (at + 1) })
       (λ e g. record { answer = refl; holds = λ _. g; kept = kept_refl s at (at + 1) })
       h
@@ -97,11 +96,11 @@ module _ (s : List ℕ) (at : ℕ) where
   byte_set : (i v : ℕ) → i < length s → Byte (set s i v) i v
   byte_set i v h = (rw length-set h, get_or-set_same s i v 0 h)
 
-  pub lock_low : get_or s at 0 ≡ 34 → (get_or s (at + 1) 0 ≡ 0 → ⊥) → Lowers s (set s (at + 1) (get_or s (at + 1) 0 - 1)) at (Next (at + 2))
+  pub lock_low : get_or s at 0 ≡ 34 → (get_or s (at + 1) 0 ≡ 0 → ⊥) → Lowers s (set s (at + 1) (get_or s (at + 1) 0 - 1)) at (Some (at + 2))
   unfolding lower mentions ty_size
   lock_low e z n l t h w =
       let s₁ = set s (at + 1) (get_or s (at + 1) 0 - 1) in
-      by_lock (λ t. Holds s at t → Lowered s s₁ at (Next (at + 2)) t) s at t h e
+      by_lock (λ t. Holds s at t → Lowered s s₁ at (Some (at + 2)) t) s at t h e
       (λ a b g.
       record {
         answer = rw (ne_eqb a 0 (λ y. z (b.1 ∙ y)));
@@ -110,21 +109,21 @@ module _ (s : List ℕ) (at : ℕ) where
       })
       h
 
-  pub lock_stop : get_or s at 0 ≡ 34 → get_or s (at + 1) 0 ≡ 0 → Lowers s s at Mentions
+  pub lock_stop : get_or s at 0 ≡ 34 → get_or s (at + 1) 0 ≡ 0 → Lowers s s at None
   unfolding mentions ty_size
   lock_stop e z n l t h w =
-      by_lock (λ t. Lowered s s at Mentions t) s at t h e
+      by_lock (λ t. Lowered s s at None t) s at t h e
       (λ a b. let y : eqb a 0 ≡ true = eq-eqb a 0 (sym b.1 ∙ z) in record { answer = rw y; holds = λ f. absurd (false≢true (sym f ∙ y)); kept = kept_refl s at (at + 2) })
 
-  pub ref_stop : get_or s at 0 ≡ 35 → get_or s (at + 1) 0 ≡ 0 → Lowers s s at Mentions
+  pub ref_stop : get_or s at 0 ≡ 35 → get_or s (at + 1) 0 ≡ 0 → Lowers s s at None
   unfolding mentions ty_size
   ref_stop e z n l t h w =
-      by_ref (λ t. Lowered s s at Mentions t) s at t h e
+      by_ref (λ t. Lowered s s at None t) s at t h e
       (λ a t b g.
       let y : eqb a 0 ≡ true = eq-eqb a 0 (sym b.1 ∙ z) in
       record { answer = rw y; holds = λ f. absurd (false≢true (sym f ∙ rw y)); kept = kept_refl s at (at + (ty_size t + 2)) })
 
-  pub ref_low : (s₂ : List ℕ) (r : Low) → get_or s at 0 ≡ 35 → (get_or s (at + 1) 0 ≡ 0 → ⊥) → Lowers (set s (at + 1) (get_or s (at + 1) 0 - 1)) s₂ (at + 2) r → Lowers s s₂ at r
+  pub ref_low : (s₂ : List ℕ) (r : Option ℕ) → get_or s at 0 ≡ 35 → (get_or s (at + 1) 0 ≡ 0 → ⊥) → Lowers (set s (at + 1) (get_or s (at + 1) 0 - 1)) s₂ (at + 2) r → Lowers s s₂ at r
   unfolding lower mentions ty_size
   ref_low s₂ r e z d n l t h w =
       by_ref (λ t. Holds s at t → Within n t → Lowered s s₂ at r t) s at t h e
@@ -144,18 +143,18 @@ module _ (s : List ℕ) (at : ℕ) where
       })
       h w
 
-  module _ (e : get_or s at 0 ≡ 36) (s₁ : List ℕ) {r : Low} (d₁ : Lowers s s₁ (at + 1) r) where
-    pub arg_stop : r ≡ Mentions → Lowers s s₁ at Mentions
+  module _ (e : get_or s at 0 ≡ 36) (s₁ : List ℕ) {r : Option ℕ} (d₁ : Lowers s s₁ (at + 1) r) where
+    pub arg_stop : r ≡ None → Lowers s s₁ at None
     unfolding mentions ty_size
     arg_stop f n l t h w =
-        by_fun (λ t. Within n t → Lowered s s₁ at Mentions t) s at t h e
+        by_fun (λ t. Within n t → Lowered s s₁ at None t) s at t h e
         (λ a m b ha hm hb w.
         let z = d₁ n l a ha w.0 in
         let y : mentions a ≡ true = low_mentions (at + 1 + ty_size a) (mentions a) (sym f ∙ z.answer) in
         record { answer = rw y; holds = λ g. absurd (false≢true (sym g ∙ rw y)); kept = kept_wider z.kept at (at + (ty_size a + ty_size b + 5)) (omega arith) (omega arith) })
         w
 
-    module _ (p : ℕ) (f : r ≡ Next p) where
+    module _ (p : ℕ) (f : r ≡ Some p) where
       -- what is known of a Function there
       set_at : (n : ℕ) → n ≤ 32 → (a : Ty) (m : ℕ) → Holds s (at + 1) a → Four s (at + 1 + ty_size a) m → Within n a → (mentions a ≡ false) × (p ≡ at + 1 + ty_size a) × Four s₁ p m
       set_at n l a m ha hm w =
@@ -163,10 +162,10 @@ module _ (s : List ℕ) (at : ℕ) where
           let q = low_next (at + 1 + ty_size a) p (mentions a) (sym f ∙ z.answer) in
           (q.0, q.1, rw q.1 (four_above z.kept (at + 1 + ty_size a) m (omega arith) hm))
 
-      pub set_stop : word32 s₁ p % 2 ≡ 1 → Lowers s s₁ at Mentions
+      pub set_stop : word32 s₁ p % 2 ≡ 1 → Lowers s s₁ at None
       unfolding mentions has ty_size
       set_stop o n l t h w =
-          by_fun (λ t. Within n t → Lowered s s₁ at Mentions t) s at t h e
+          by_fun (λ t. Within n t → Lowered s s₁ at None t) s at t h e
           (λ a m b ha hm hb w.
           let q = set_at n l a m ha hm w.0 in
           let z = d₁ n l a ha w.0 in
@@ -174,7 +173,7 @@ module _ (s : List ℕ) (at : ℕ) where
           record { answer = rw (q.0, y); holds = λ g. absurd (false≢true (sym g ∙ rw (q.0, y))); kept = kept_wider z.kept at (at + (ty_size a + ty_size b + 5)) (omega arith) (omega arith) })
           w
 
-      pub fun_low : (s₃ : List ℕ) (r₂ : Low) → word32 s₁ p % 2 ≡ 0 → Lowers (put s₁ p (word32 s₁ p / 2)) s₃ (p + 4) r₂ → Lowers s s₃ at r₂
+      pub fun_low : (s₃ : List ℕ) (r₂ : Option ℕ) → word32 s₁ p % 2 ≡ 0 → Lowers (put s₁ p (word32 s₁ p / 2)) s₃ (p + 4) r₂ → Lowers s s₃ at r₂
       unfolding lower lowered mentions has ty_size
       fun_low s₃ r₂ o d₂ n l t h w =
           by_fun (λ t. Holds s at t → Within n t → Lowered s s₃ at r₂ t) s at t h e

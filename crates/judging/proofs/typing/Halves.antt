@@ -2,7 +2,7 @@
 use mathlib.Core.Path.{◌≡◌, refl, ap, sym, ◌∙◌, subst}
 use mathlib.Core.List.{List}
 use mathlib.Core.Logic.{◌⊎◌, inl, inr}
-use Prim.Native.Nat.{ℕ, ◌+◌, ◌-◌, ◌<◌}
+use Prim.Native.Nat.{ℕ, ◌+◌, ◌-◌, ◌<◌, ◌≤◌}
 use native.Mathlib.Omega.{arith}
 use native.Mathlib.Nat.{add-zero, pos_of_ne-zero}
 use lib.Bits.{bit_or, or_lt}
@@ -13,13 +13,16 @@ use Rattle.paper.specs.Reading.{got}
 use Rattle.reading.specs.Placed.{Exp}
 use Rattle.reading.specs.First.{exp_at}
 use Rattle.reading.specs.Walk.{binds2}
-use Rattle.judging.specs.declared.work.Answer.{Answer}
-use Rattle.judging.specs.declared.work.Answer.TheVariants.{Typed, Refused}
-use Rattle.judging.specs.Copies.{Movable, Moved}
+use Rattle.std.specs.Prelude.{Ok, Err}
+use Rattle.answers.specs.Numbers.{number, place}
+use Rattle.answers.specs.declared.Refusal.{Refusal}
+use Rattle.judging.specs.declared.work.Typed.{Typed}
+use Rattle.judging.specs.Answer.{Answer, gives}
+use Rattle.judging.specs.Copies.{Movable}
 use Rattle.judging.specs.Rules.{typed, refused, ◌next◌, judge}
 use Rattle.judging.specs.Phases.{parts_of, env2}
 use Rattle.judging.specs.Work.{slot, Env, Frame}
-use Rattle.judging.specs.Contract.{Out, Ready, Finds, Bindable, Bound}
+use Rattle.judging.specs.Contract.{Out, Ready, Finds, Bindable, Bound, Goes}
 use Rattle.judging.proofs.Cases.{by_let_in, by_seq}
 use Rattle.judging.proofs.Gone.{two_needs}
 use Rattle.judging.proofs.Node.{PartsAt, read_whole}
@@ -99,16 +102,16 @@ module _ {img w : List ℕ} {at v n left : ℕ} (S : Ready img w at v n left) (c
     out_1 : (R : Ready img w at v n left) → Out w2 (left - 1) n (half R).mid (judge R.env (half R).a) r1
     out_1 R = J1.says (half R).a (half R).mid R.env (half R).first R.held
 
-    pub chain_refused_1 : {k p : ℕ} → r1 ≡ Refused k p → Finds img w w2 at v n left (Refused k p)
-    chain_refused_1 {k} {p} f =
+    pub chain_refused_1 : {e : Refusal} → r1 ≡ Err e → Finds img w w2 at v n left (Err e)
+    chain_refused_1 {e} f =
         finds S frame_2 λ R.
         let z = out_refused w2 (left - 1) n (half R).mid _ (out_1 R) f in
-        let y : judge R.env R.x ≡ refused k p = (half R).is R.env ∙ refused_next _ z in
+        let y : judge R.env R.x ≡ refused (number e) (place e) = (half R).is R.env ∙ refused_next _ z in
         rw y
 
     -- the part has a type
-    module _ {p2 m1 : ℕ} (T1 : r1 ≡ Typed p2 m1) where
-      gave_1 : (R : Ready img w at v n left) → Gave w2 (left - 1) n (half R).mid (judge R.env (half R).a) p2 m1
+    module _ {a : Typed} (T1 : r1 ≡ Ok a) where
+      gave_1 : (R : Ready img w at v n left) → Gave w2 (left - 1) n (half R).mid (judge R.env (half R).a) a
       gave_1 R = out_typed w2 (left - 1) n (half R).mid _ (out_1 R) T1
 
       held_2 : (R : Ready img w at v n left) → Env w2 v n R.env
@@ -131,13 +134,13 @@ module _ {img w : List ℕ} {at v n left : ℕ} (S : Ready img w at v n left) (c
         frame_3 : Frame w w3 v left
         frame_3 = frame_then v left frame_2 (frame_env v left B.change (omega (arith, S.deep)))
 
-        reads_2 : (R : Ready img w at v n left) → exp_at (left - 1) v2 n img p2 ≡ got (half R).b R.next
+        reads_2 : (R : Ready img w at v n left) → exp_at (left - 1) v2 n img a.end ≡ got (half R).b R.next
         reads_2 R = rw (sym (gave_1 R).next_is) (rw e at (half R).second)
 
         held_3 : (R : Ready img w at v n left) → Env w3 v2 n (env2 R.x (gave_1 R).type R.env)
         held_3 R = rw e at (B.says R.x R.next R.env (gave_1 R).type R.reads (held_2 R) (gave_1 R).slotted)
 
-        pub chain_ready_2 : Ready img w3 p2 v2 n (left - 1)
+        pub chain_ready_2 : Ready img w3 a.end v2 n (left - 1)
         chain_ready_2 =
             let W = read_whole left v n img at S.x S.next S.reads in
             let d = some_left S in
@@ -153,37 +156,37 @@ module _ {img w : List ℕ} {at v n left : ℕ} (S : Ready img w at v n left) (c
             }
 
         -- after the call
-        module _ {r2 : Answer} {w4 : List ℕ} (J2 : Finds img w3 w4 p2 v2 n (left - 1) r2) where
+        module _ {r2 : Answer} {w4 : List ℕ} (J2 : Finds img w3 w4 a.end v2 n (left - 1) r2) where
           frame_4 : Frame w w4 v left
           frame_4 = frame_then v left frame_3 (frame_part v left (binds2 (get_or img at 0)) (rw e J2.frame) (omega (arith, S.deep)))
 
           out_2 : (R : Ready img w at v n left) → Out w4 (left - 1) n R.next (judge (env2 R.x (gave_1 R).type R.env) (half R).b) r2
           out_2 R = J2.says (half R).b R.next (env2 R.x (gave_1 R).type R.env) (reads_2 R) (held_3 R)
 
-          from_1 : (R : Ready img w at v n left) → judge R.env R.x ≡ (judge (env2 R.x (gave_1 R).type R.env) (half R).b next λ u k. typed u (union m1 k))
+          from_1 : (R : Ready img w at v n left) → judge R.env R.x ≡ (judge (env2 R.x (gave_1 R).type R.env) (half R).b next λ u k. typed u (union a.need k))
           from_1 R = (half R).is R.env ∙ typed_then _ (gave_1 R).is
 
-          pub chain_refused_2 : {k p : ℕ} → r2 ≡ Refused k p → Finds img w w4 at v n left (Refused k p)
-          chain_refused_2 {k} {p} f =
+          pub chain_refused_2 : {e : Refusal} → r2 ≡ Err e → Finds img w w4 at v n left (Err e)
+          chain_refused_2 {e} f =
               finds S frame_4 λ R.
               let z = out_refused w4 (left - 1) n R.next _ (out_2 R) f in
-              let y : judge R.env R.x ≡ refused k p = from_1 R ∙ refused_next _ z in
+              let y : judge R.env R.x ≡ refused (number e) (place e) = from_1 R ∙ refused_next _ z in
               rw y
 
           -- the part has a type
-          module _ {p3 m2 : ℕ} (T2 : r2 ≡ Typed p3 m2) where
-            gave_2 : (R : Ready img w at v n left) → Gave w4 (left - 1) n R.next (judge (env2 R.x (gave_1 R).type R.env) (half R).b) p3 m2
+          module _ {b : Typed} (T2 : r2 ≡ Ok b) where
+            gave_2 : (R : Ready img w at v n left) → Gave w4 (left - 1) n R.next (judge (env2 R.x (gave_1 R).type R.env) (half R).b) b
             gave_2 R = out_typed w4 (left - 1) n R.next _ (out_2 R) T2
 
-            pub chain_movable : Movable w4 (slot (left - 1)) (slot left)
+            pub chain_movable : (1 ≤ left) × (left ≤ 64) × Movable w4 (slot (left - 1)) (slot left)
             chain_movable =
-                let d = some_left S in
-                slot_movable w4 left n (gave_2 S).type (omega (arith, S.room, frame_4.long)) (pos_of_ne-zero d) (omega (arith, S.deep)) (gave_2 S).slotted
+                let d = pos_of_ne-zero (some_left S) in
+                (d, omega (arith, S.deep), slot_movable w4 left n (gave_2 S).type (omega (arith, S.room, frame_4.long)) d (omega (arith, S.deep)) (gave_2 S).slotted)
 
-            pub chain_done : {w5 : List ℕ} → Moved w4 w5 (slot (left - 1)) (slot left) → Finds img w w5 at v n left (Typed p3 (bit_or m1 m2))
-            chain_done {w5} M =
+            pub chain_done : {w5 : List ℕ} {r : Typed} → Goes w4 w5 left a.need b.need b.end r → Finds img w w5 at v n left (Ok r)
+            chain_done {w5} (M, f) =
                 finds S (frame_then v left frame_4 (frame_slot v left M.kept S.deep)) λ R.
                 let g = gave_1 R in
                 let h = gave_2 R in
-                let y : judge R.env R.x ≡ typed h.type (bit_or m1 m2) = from_1 R ∙ typed_then _ h.is ∙ ap (typed h.type) (two_needs n m1 m2 R.few g.small h.small) in
-                rw y (ap (λ (p : ℕ). Typed p (bit_or m1 m2)) (sym h.next_is), slot_moved w4 w5 left n h.type M h.slotted, or_lt n m1 m2 g.small h.small)
+                let y : judge R.env R.x ≡ typed h.type (bit_or a.need b.need) = from_1 R ∙ typed_then _ h.is ∙ ap (typed h.type) (two_needs n a.need b.need R.few g.small h.small) in
+                rw y (ap Ok f ∙ ap (λ (p : ℕ). gives p (bit_or a.need b.need)) (sym h.next_is), slot_moved w4 w5 left n h.type M h.slotted, or_lt n a.need b.need g.small h.small)

@@ -1,7 +1,6 @@
 -- The walk over an expression's first part: what the calls may ask, and what each way out answers. Each law is for any reading of the
 -- expression and any types of its variables that there may be: `Ready` is such a reading.
 use mathlib.Core.Path.{◌≡◌, refl, sym, ◌∙◌, subst}
-use mathlib.Core.Bool.{Bool, true, false}
 use mathlib.Core.List.{List}
 use Prim.Native.Nat.{ℕ, ◌+◌, ◌-◌, ◌*◌, ◌^◌, ◌<◌}
 use native.Mathlib.Omega.{arith}
@@ -11,8 +10,11 @@ use Rattle.paper.specs.Reading.{got}
 use Rattle.reading.specs.First.{exp_at}
 use Rattle.reading.specs.Walk.{parts, binds1, locks1}
 use Rattle.reading.proofs.first.Laws.{lock_room}
-use Rattle.judging.specs.declared.work.Answer.{Answer}
-use Rattle.judging.specs.declared.work.Answer.TheVariants.{Typed, Refused}
+use Rattle.std.specs.Prelude.{Result, Ok, Err}
+use Rattle.answers.specs.Numbers.{number, place}
+use Rattle.answers.specs.declared.Refusal.{Refusal}
+use Rattle.judging.specs.declared.work.Typed.{Typed}
+use Rattle.judging.specs.Answer.{Answer, gives}
 use Rattle.judging.specs.Rules.{refused, ◌next◌, judge}
 use Rattle.judging.specs.Phases.{parts_of, env1, after1}
 use Rattle.judging.specs.Work.{Env, Frame, InSlot}
@@ -132,36 +134,36 @@ module _ {img w w1 : List ℕ} {at v n left p1 v1 n1 : ℕ} (S : Started img w w
         ≡ judge R.env R.x
     whole_1 R = walk_1 R.env R.x (parts_of R.x) (read_1 R).not0 ∙ sym (walked R.env R.x)
 
-    pub refused_1 : {k p : ℕ} → r1 ≡ Refused k p → Finds img w w2 at v n left (Refused k p)
-    refused_1 {k} {p} f =
+    pub refused_1 : {e : Refusal} → r1 ≡ Err e → Finds img w w2 at v n left (Err e)
+    refused_1 {e} f =
         finds S.ready frame_2 λ R.
         let z = out_refused w2 (left - 1) (n + locks1 (get_or img at 0)) (read_1 R).q _ (out_1 R) f in
-        let y : judge R.env R.x ≡ refused k p = sym (whole_1 R) ∙ refused_next _ z in
+        let y : judge R.env R.x ≡ refused (number e) (place e) = sym (whole_1 R) ∙ refused_next _ z in
         rw y
 
     -- the part has a type
-    module _ {p2 m1 : ℕ} (T1 : r1 ≡ Typed p2 m1) where
-      gave_1 : (R : Ready img w at v n left) → Gave w2 (left - 1) (n + locks1 (get_or img at 0)) (read_1 R).q (judge (env1 R.x R.env) (head (parts_of R.x))) p2 m1
+    module _ {a : Typed} (T1 : r1 ≡ Ok a) where
+      gave_1 : (R : Ready img w at v n left) → Gave w2 (left - 1) (n + locks1 (get_or img at 0)) (read_1 R).q (judge (env1 R.x R.env) (head (parts_of R.x))) a
       gave_1 R = out_typed w2 (left - 1) (n + locks1 (get_or img at 0)) (read_1 R).q _ (out_1 R) T1
 
       pub some_1 : Some1 img w2 at n left
       some_1 = let R = S.ready in let g = gave_1 R in (v, R.x, given R w2 frame_2.long, g.type, g.slotted)
 
       -- after what is done then
-      module _ {s1 : Answer} {w3 : List ℕ} (A1 : First img w2 w3 at n left p1 m1 p2 s1) where
+      module _ {s1 : Answer} {w3 : List ℕ} (A1 : First img w2 w3 at n left p1 a.need a.end s1) where
         frame_3 : Frame w w3 v left
         frame_3 = frame_then v left frame_2 (frame_slot v left A1.kept S.ready.deep)
 
-        out_3 : (R : Ready img w at v n left) → Out w3 left n p2 (after1 R.x (gave_1 R).type m1) s1
+        out_3 : (R : Ready img w at v n left) → Out w3 left n a.end (after1 R.x (gave_1 R).type a.need) s1
         out_3 R =
             A1.says v R.x (given R w2 frame_2.long)
             (place1_head (parts_of R.x) (read_1 R).not0 ∙ place_of_lem (left - 1) (v + binds1 (get_or img at 0)) (n + locks1 (get_or img at 0)) img p1 (head (parts_of R.x)) (read_1 R).q (read_1 R).first)
             (gave_1 R).type (gave_1 R).slotted (gave_1 R).small
 
-        from_1 : (R : Ready img w at v n left) → judge R.env R.x ≡ (after1 R.x (gave_1 R).type m1 next λ k l. rest1 R.env R.x (parts_of R.x) k l)
+        from_1 : (R : Ready img w at v n left) → judge R.env R.x ≡ (after1 R.x (gave_1 R).type a.need next λ k l. rest1 R.env R.x (parts_of R.x) k l)
         from_1 R = sym (whole_1 R) ∙ typed_then _ (gave_1 R).is
 
-        more_1 : (R : Ready img w at v n left) → Then1 (left - 1) v n img (get_or img at 0) p2 R.next (parts_of R.x)
+        more_1 : (R : Ready img w at v n left) → Then1 (left - 1) v n img (get_or img at 0) a.end R.next (parts_of R.x)
         more_1 R = subst (λ (q : ℕ). Then1 (left - 1) v n img (get_or img at 0) q R.next (parts_of R.x)) (gave_1 R).next_is (read_1 R).more
 
         -- there is no second part
@@ -169,28 +171,28 @@ module _ {img w w1 : List ℕ} {at v n left p1 v1 n1 : ℕ} (S : Started img w w
         last_1 f =
             finds S.ready frame_3 λ R.
             let z : count (parts_of R.x) ≡ 1 = sym (read_1 R).many ∙ f in
-            let y : judge R.env R.x ≡ after1 R.x (gave_1 R).type m1 =
+            let y : judge R.env R.x ≡ after1 R.x (gave_1 R).type a.need =
             from_1 R ∙ next_same _ _ _ (λ k l. one_rest R.env R.x (parts_of R.x) k l z) ∙ next_typed _ in
-            let q : p2 ≡ R.next = one_more (left - 1) v n img (get_or img at 0) p2 R.next (parts_of R.x) z (more_1 R) in
+            let q : a.end ≡ R.next = one_more (left - 1) v n img (get_or img at 0) a.end R.next (parts_of R.x) z (more_1 R) in
             subst (λ (p : ℕ). Out w3 left n p (judge R.env R.x) s1) q (rw y (out_3 R))
 
         -- there is one
-        stop_1 : {k p : ℕ} → s1 ≡ Refused k p → Finds img w w3 at v n left (Refused k p)
-        stop_1 {k} {p} f =
+        stop_1 : {e : Refusal} → s1 ≡ Err e → Finds img w w3 at v n left (Err e)
+        stop_1 {e} f =
             finds S.ready frame_3 λ R.
-            let z = out_refused w3 left n p2 _ (out_3 R) f in
-            let y : judge R.env R.x ≡ refused k p = from_1 R ∙ refused_next _ z in
+            let z = out_refused w3 left n a.end _ (out_3 R) f in
+            let y : judge R.env R.x ≡ refused (number e) (place e) = from_1 R ∙ refused_next _ z in
             rw y
 
-        after_1 : {l1 : ℕ} → s1 ≡ Typed p2 l1 → After1 img w w3 at v n left p2 l1
+        after_1 : {l1 : ℕ} → s1 ≡ gives a.end l1 → After1 img w w3 at v n left a.end l1
         after_1 {l1} f = record { ready = S.ready; frame = frame_3; each = goes }
           where
-            goes : (R : Ready img w at v n left) → Goes1 img w w3 at v n left p2 l1 R
+            goes : (R : Ready img w at v n left) → Goes1 img w w3 at v n left a.end l1 R
             goes R =
-                let W : Gave w3 left n p2 (after1 R.x (gave_1 R).type m1) p2 l1 = out_typed w3 left n p2 _ (out_3 R) f in
+                let W : Gave w3 left n a.end (after1 R.x (gave_1 R).type a.need) (record { end = a.end; need = l1 }) = out_typed w3 left n a.end _ (out_3 R) f in
                 record {
                   type = W.type;
-                  was = ((gave_1 R).type, m1, W.is);
+                  was = ((gave_1 R).type, a.need, W.is);
                   slotted = W.slotted;
                   small = W.small;
                   on = from_1 R ∙ typed_then _ W.is;
@@ -200,12 +202,12 @@ module _ {img w w1 : List ℕ} {at v n left p1 v1 n1 : ℕ} (S : Started img w w
                 }
 
       -- as the functions answer
-      pub ends_1 : {b : ℕ} {s1 : Answer} {w3 : List ℕ} → AnswersIn1 (λ k. k ≡ b) img at p1 w2 w3 left m1 p2 s1 → get_or img at 0 ≡ b → parts (get_or img at 0) ≡ 1 → Finds img w w3 at v n left s1
+      pub ends_1 : {b : ℕ} {s1 : Answer} {w3 : List ℕ} → AnswersIn1 (λ k. k ≡ b) img at p1 w2 w3 left a.need a.end s1 → get_or img at 0 ≡ b → parts (get_or img at 0) ≡ 1 → Finds img w w3 at v n left s1
       ends_1 A e = last_1 (A n some_1 e)
 
-      module _ {kind : ℕ} {ok : Bool} {w3 : List ℕ} (A : Tests1 (λ k. Due k kind) w2 w3 left ok) (d : Due (get_or img at 0) kind) where
-        pub other_1 : ok ≡ false → Finds img w w3 at v n left (Refused 11 p1)
-        other_1 f = stop_1 (A p1 m1 p2 img at n some_1 d) (rw f)
+      module _ {kind : ℕ} {r : Result (Unit {0}) Refusal} {w3 : List ℕ} (A : Tests1 (λ k. Due k kind) p1 w2 w3 left r) (d : Due (get_or img at 0) kind) where
+        pub other_1 : {e : Refusal} → r ≡ Err e → Finds img w w3 at v n left (Err e)
+        other_1 f = stop_1 (A a.need a.end img at n some_1 d) (rw f)
 
-        pub due_1 : ok ≡ true → After1 img w w3 at v n left p2 m1
-        due_1 f = after_1 (A p1 m1 p2 img at n some_1 d) (rw f)
+        pub due_1 : {u : Unit {0}} → r ≡ Ok u → After1 img w w3 at v n left a.end a.need
+        due_1 f = after_1 (A a.need a.end img at n some_1 d) (rw f)

@@ -1,21 +1,27 @@
 -- How each rule begins: where its first part stands, what that part is under, and how many parts there are.
 use mathlib.Core.Path.{◌≡◌, refl, ap, sym, ◌∙◌}
-use mathlib.Core.Bool.{Bool, true}
 use mathlib.Core.List.{List}
+use mathlib.Core.Logic.{inl, inr}
 use Prim.Native.Nat.{ℕ, zero, suc, ◌+◌, ◌-◌, ◌<◌}
 use native.Mathlib.Omega.{arith}
 use native.Mathlib.Nat.{add-zero, le_antisymm}
+use lib.Bits.{bit_or}
 use lib.ListN.{get_or}
 use Rattle.reading.specs.Walk.{parts, binds1, locks1}
 use Rattle.judging.specs.Copies.{Ends}
-use Rattle.judging.specs.declared.work.Answer.{Answer}
-use Rattle.judging.specs.declared.work.Answer.TheVariants.{Typed}
-use Rattle.judging.specs.Contract.{Ready, Finds, Entered, Starts, Tests1, Due}
+use Rattle.std.specs.Prelude.{Result, Ok, Err}
+use Rattle.codes.specs.declared.NoSuchCode.{NoSuchCode}
+use Rattle.codes.specs.declared.ExpCode.{ExpCode}
+use Rattle.codes.specs.Codes.{ExpDecodes, exp_byte}
+use Rattle.answers.specs.declared.Refusal.{Refusal}
+use Rattle.judging.specs.declared.work.Typed.{Typed}
+use Rattle.judging.specs.Answer.{Answer}
+use Rattle.judging.specs.Contract.{Ready, Finds, Entered, Starts, Tests1, TestsIn2, Due}
 use Rattle.judging.proofs.Node.{read_whole}
 use Rattle.judging.proofs.binding.Env.{binds1_other, locks1_other, enter_other}
 use Rattle.judging.proofs.binding.Start.{own_read, starts, start_cell, start_if, start_other}
 use Rattle.judging.proofs.typing.One.{Started, After1, due_1}
-use Rattle.judging.proofs.typing.Two.{Due2, After2}
+use Rattle.judging.proofs.typing.Two.{Due2, After2, fits_2}
 use Rattle.judging.proofs.typing.Three.{Due3}
 
 -- the rules, by their code and the number of their parts, whose first part stands next to the code and is under nothing new
@@ -108,32 +114,32 @@ pub if_due_3 : {img w w6 : List ℕ} {at v n left p3 l2 : ℕ} → get_or img at
 if_due_3 e A = record { after = A; more = λ f. omega (arith, if_parts e) }
 
 -- the first part has a type, and the test after it is passed: the second part is due
-module _ {img w w2 w3 : List ℕ} {at v n left kind p2 m1 : ℕ} {r1 : Answer} {ok : Bool} (R : Ready img w at v n left) where
-  pub second_due : {b : ℕ} → Beside b 2 → get_or img at 0 ≡ b → Finds img w w2 (at + 1) v n (left - 1) r1 → r1 ≡ Typed p2 m1
-      → Tests1 (λ k. Due k kind) w2 w3 left ok → Due (get_or img at 0) kind → ok ≡ true → Due2 img w w3 at v n left p2 m1
-  second_due d e f s a k h = due_2 d e (due_1 (beside R d e) f s a k h)
+module _ {img w w2 w3 : List ℕ} {at v n left kind : ℕ} {a : Typed} {r1 : Answer} {r : Result (Unit {0}) Refusal} {u : Unit {0}} (R : Ready img w at v n left) where
+  pub second_due : {b : ℕ} → Beside b 2 → get_or img at 0 ≡ b → Finds img w w2 (at + 1) v n (left - 1) r1 → r1 ≡ Ok a
+      → Tests1 (λ k. Due k kind) (at + 1) w2 w3 left r → Due (get_or img at 0) kind → r ≡ Ok u → Due2 img w w3 at v n left a.end a.need
+  second_due d e f s t k h = due_2 d e (due_1 (beside R d e) f s t k h)
 
-  pub if_second_due : {p : ℕ} → get_or img at 0 ≡ 15 → Ends img (at + 1) p → Finds img w w2 p v n (left - 1) r1 → r1 ≡ Typed p2 m1
-      → Tests1 (λ k. Due k kind) w2 w3 left ok → Due (get_or img at 0) kind → ok ≡ true → Due2 img w w3 at v n left p2 m1
-  if_second_due e q f s a k h = if_due_2 e (due_1 (behind_type R e q) f s a k h)
+  pub if_second_due : {p : ℕ} → get_or img at 0 ≡ 15 → Ends img (at + 1) p → Finds img w w2 p v n (left - 1) r1 → r1 ≡ Ok a
+      → Tests1 (λ k. Due k kind) p w2 w3 left r → Due (get_or img at 0) kind → r ≡ Ok u → Due2 img w w3 at v n left a.end a.need
+  if_second_due e q f s t k h = if_due_2 e (due_1 (behind_type R e q) f s t k h)
+
+  -- so has the second, and the test after it is passed: the third is due
+  pub if_third_due : {w5 w6 : List ℕ} {p : ℕ} {b : Typed} {r2 : Answer} {q : Result (Unit {0}) Refusal} {o : Unit {0}} → (c : get_or img at 0 ≡ 15) → Ends img (at + 1) p → Finds img w w2 p v n (left - 1) r1 → r1 ≡ Ok a
+      → Tests1 (λ k. Due k kind) p w2 w3 left r → Due (get_or img at 0) kind → r ≡ Ok u → Finds img w3 w5 a.end v n (left - 1) r2 → r2 ≡ Ok b
+      → TestsIn2 (λ k. k ≡ 15) img at a.end w5 w6 left q → q ≡ Ok o → Due3 img w w6 at v n left b.end (bit_or a.need b.need)
+  if_third_due e q f s t k h g i x y = if_due_3 e (fits_2 (if_second_due e q f s t k h) g i x e y)
 
 -- the one part of a function, of a new cell and of a new lock
 pub one_part : {b k : ℕ} → b ≡ k → parts k ≡ 1 → parts b ≡ 1
 one_part e f = ap parts e ∙ f
 
--- ---- the code that is left where the others, from 1 to k, were asked for
-abbrev pub Past : ℕ → ℕ → Type 0
-Past b zero = Unit {0}
-Past b (suc k) = Past b k × (b ≡ suc k → ⊥)
+-- ---- the code of an expression that was read
+pub code_at : {b : ℕ} {r : Result ExpCode NoSuchCode} {c : ExpCode} → ExpDecodes b r → r ≡ Ok c → b ≡ exp_byte c
+code_at {b} {r} {c} d e = sym (rw e at d)
 
-past : (b k : ℕ) → (b ≡ 0 → ⊥) → Past b k → k < b
-past b zero z h = omega arith
-past b (suc k) z h =
-    let l = past b k z h.0 in
-    let y = h.1 in
-    omega arith
-
-pub last_code : {img w : List ℕ} {at v n left : ℕ} → Ready img w at v n left → Past (get_or img at 0) 14 → get_or img at 0 ≡ 15
-last_code {img} {w} {at} {v} {n} {left} R h =
+pub some_code : {img w : List ℕ} {at v n left : ℕ} {r : Result ExpCode NoSuchCode} {e : NoSuchCode} → Ready img w at v n left → ExpDecodes (get_or img at 0) r → r ≡ Err e → ⊥
+some_code {img} {w} {at} {v} {n} {left} R d f =
     let W = read_whole left v n img at R.x R.next R.reads in
-    le_antisymm W.most (past (get_or img at 0) 14 W.some h)
+    let z = W.some in
+    let u = W.most in
+    elim (rw f at d) [ inl l ↦ z (omega arith) | inr l ↦ omega arith ]

@@ -8,8 +8,11 @@ use lib.ListN.{get_or}
 use Rattle.paper.specs.Reading.{got}
 use Rattle.reading.specs.First.{exp_at}
 use Rattle.reading.specs.Walk.{parts}
-use Rattle.judging.specs.declared.work.Answer.{Answer}
-use Rattle.judging.specs.declared.work.Answer.TheVariants.{Typed, Refused}
+use Rattle.std.specs.Prelude.{Ok, Err}
+use Rattle.answers.specs.Numbers.{number, place}
+use Rattle.answers.specs.declared.Refusal.{Refusal}
+use Rattle.judging.specs.declared.work.Typed.{Typed}
+use Rattle.judging.specs.Answer.{Answer}
 use Rattle.judging.specs.Rules.{refused, ◌next◌, judge}
 use Rattle.judging.specs.Phases.{parts_of, after3}
 use Rattle.judging.specs.Work.{Env, Frame}
@@ -56,16 +59,16 @@ module _ {img w w6 : List ℕ} {at v n left p3 l2 : ℕ} (D : Due3 img w w6 at v
     at_3 : (R : Ready img w at v n left) → judge R.env R.x ≡ (judge R.env (third (parts_of R.x)) next λ u i. after3 R.x l2 u i)
     at_3 R = (D.after.each R).on ∙ three_rest R.env R.x (parts_of R.x) _ l2 (read_3 R).1
 
-    pub refused_3 : {k p : ℕ} → r3 ≡ Refused k p → Finds img w w7 at v n left (Refused k p)
-    refused_3 {k} {p} f =
+    pub refused_3 : {e : Refusal} → r3 ≡ Err e → Finds img w w7 at v n left (Err e)
+    refused_3 {e} f =
         finds D.after.ready frame_7 λ R.
         let z = out_refused w7 (left - 1) n R.next _ (out_3 R) f in
-        let y : judge R.env R.x ≡ refused k p = at_3 R ∙ refused_next _ z in
+        let y : judge R.env R.x ≡ refused (number e) (place e) = at_3 R ∙ refused_next _ z in
         rw y
 
     -- the part has a type
-    module _ {p4 m3 : ℕ} (T3 : r3 ≡ Typed p4 m3) where
-      gave_3 : (R : Ready img w at v n left) → Gave w7 (left - 1) n R.next (judge R.env (third (parts_of R.x))) p4 m3
+    module _ {c : Typed} (T3 : r3 ≡ Ok c) where
+      gave_3 : (R : Ready img w at v n left) → Gave w7 (left - 1) n R.next (judge R.env (third (parts_of R.x))) c
       gave_3 R = out_typed w7 (left - 1) n R.next _ (out_3 R) T3
 
       pub some_3 : Some3 img w7 at n left
@@ -76,12 +79,12 @@ module _ {img w w6 : List ℕ} {at v n left p3 l2 : ℕ} (D : Due3 img w w6 at v
           (v, R.x, given R w7 frame_7.long, three_15 (get_or img at 0) W.some W.most (W.is.how_many ∙ (read_3 R).1), g.type, g.slotted)
 
       -- after what is done then
-      module _ {s3 : Answer} {w8 : List ℕ} (A : AnswersIn3 img at p3 w7 w8 left l2 m3 p4 s3) where
+      module _ {s3 : Answer} {w8 : List ℕ} (A : AnswersIn3 img at p3 w7 w8 left l2 c.need c.end s3) where
         pub ends_3 : Finds img w w8 at v n left s3
         ends_3 =
             let A3 = A n some_3 in
             finds D.after.ready (frame_then v left frame_7 (frame_slot v left A3.kept D.after.ready.deep)) λ R.
-            let y : judge R.env R.x ≡ after3 R.x l2 (gave_3 R).type m3 = at_3 R ∙ typed_then _ (gave_3 R).is in
+            let y : judge R.env R.x ≡ after3 R.x l2 (gave_3 R).type c.need = at_3 R ∙ typed_then _ (gave_3 R).is in
             let o =
             A3.says v R.x (given R w7 frame_7.long)
             (place3_third (parts_of R.x) (read_3 R).1 ∙ place_of_lem (left - 1) v n img p3 (third (parts_of R.x)) R.next (read_3 R).0)

@@ -1,6 +1,5 @@
 -- The walk over an expression's second part: what the calls may ask, and what each way out answers.
 use mathlib.Core.Path.{◌≡◌, ap, sym, ◌∙◌, subst}
-use mathlib.Core.Bool.{Bool, true, false}
 use mathlib.Core.List.{List}
 use Prim.Native.Nat.{ℕ, ◌-◌, ◌^◌, ◌<◌}
 use native.Mathlib.Omega.{arith}
@@ -11,8 +10,11 @@ use Rattle.paper.specs.Types.{Ty}
 use Rattle.paper.specs.Reading.{got}
 use Rattle.reading.specs.First.{exp_at}
 use Rattle.reading.specs.Walk.{parts}
-use Rattle.judging.specs.declared.work.Answer.{Answer}
-use Rattle.judging.specs.declared.work.Answer.TheVariants.{Typed, Refused}
+use Rattle.std.specs.Prelude.{Result, Ok, Err}
+use Rattle.answers.specs.Numbers.{number, place}
+use Rattle.answers.specs.declared.Refusal.{Refusal}
+use Rattle.judging.specs.declared.work.Typed.{Typed}
+use Rattle.judging.specs.Answer.{Answer, gives}
 use Rattle.judging.specs.Rules.{refused, ◌next◌, judge}
 use Rattle.judging.specs.Phases.{parts_of, env2, after2}
 use Rattle.judging.specs.Work.{Env, Frame, InSlot}
@@ -95,11 +97,11 @@ module _ {img w w3 : List ℕ} {at v n left p2 l1 : ℕ} (D : Due2 img w w3 at v
         (D.after.each R).on ∙ two_rest R.env R.x (parts_of R.x) (D.after.each R).type l1 (D.after.each R).not0 (more1 R)
         ∙ ap (λ (v : List Ty). judge v (second (parts_of R.x)) next λ u i. after2 R.x (D.after.each R).type l1 u i next λ t o. rest2 R.env R.x (parts_of R.x) t o) (same_2 R)
 
-    pub refused_2 : {k p : ℕ} → r2 ≡ Refused k p → Finds img w w5 at v n left (Refused k p)
-    refused_2 {k} {p} f =
+    pub refused_2 : {e : Refusal} → r2 ≡ Err e → Finds img w w5 at v n left (Err e)
+    refused_2 {e} f =
         finds D.after.ready frame_5 λ R.
         let z = out_refused w5 (left - 1) n (read_2 R).q _ (out_2 R) f in
-        let y : judge R.env R.x ≡ refused k p = at_2 R ∙ refused_next _ z in
+        let y : judge R.env R.x ≡ refused (number e) (place e) = at_2 R ∙ refused_next _ z in
         rw y
 
     -- what the first part left is still in its slot
@@ -109,28 +111,28 @@ module _ {img w w3 : List ℕ} {at v n left p2 l1 : ℕ} (D : Due2 img w w3 at v
         slot_same w3 w5 left n (D.after.each R).type J2.frame.long (λ i a c. J2.frame.kept i (omega (arith, R.deep)) (omega (arith, R.deep))) (D.after.each R).slotted
 
     -- the part has a type
-    module _ {p3 m2 : ℕ} (T2 : r2 ≡ Typed p3 m2) where
-      gave_2 : (R : Ready img w at v n left) → Gave w5 (left - 1) n (read_2 R).q (judge R.env (second (parts_of R.x))) p3 m2
+    module _ {b : Typed} (T2 : r2 ≡ Ok b) where
+      gave_2 : (R : Ready img w at v n left) → Gave w5 (left - 1) n (read_2 R).q (judge R.env (second (parts_of R.x))) b
       gave_2 R = out_typed w5 (left - 1) n (read_2 R).q _ (out_2 R) T2
 
       pub some_2 : Some2 img w5 at n left
       some_2 = let R = D.after.ready in let g = gave_2 R in (v, R.x, given R w5 frame_5.long, (D.after.each R).type, still R, g.type, g.slotted, l1, (D.after.each R).was)
 
       -- after what is done then
-      module _ {s2 : Answer} {w6 : List ℕ} (A2 : Second img w5 w6 at n left p2 l1 m2 p3 s2) where
+      module _ {s2 : Answer} {w6 : List ℕ} (A2 : Second img w5 w6 at n left p2 l1 b.need b.end s2) where
         frame_6 : Frame w w6 v left
         frame_6 = frame_then v left frame_5 (frame_slot v left A2.kept D.after.ready.deep)
 
-        out_6 : (R : Ready img w at v n left) → Out w6 left n p3 (after2 R.x (D.after.each R).type l1 (gave_2 R).type m2) s2
+        out_6 : (R : Ready img w at v n left) → Out w6 left n b.end (after2 R.x (D.after.each R).type l1 (gave_2 R).type b.need) s2
         out_6 R =
             A2.says v R.x (given R w5 frame_5.long)
             (place2_second (parts_of R.x) (D.after.each R).not0 (more1 R) ∙ place_of_lem (left - 1) v n img p2 (second (parts_of R.x)) (read_2 R).q (read_2 R).part)
             (D.after.each R).type (D.after.each R).was (still R) (D.after.each R).small (gave_2 R).type (gave_2 R).slotted (gave_2 R).small
 
-        from_2 : (R : Ready img w at v n left) → judge R.env R.x ≡ (after2 R.x (D.after.each R).type l1 (gave_2 R).type m2 next λ t o. rest2 R.env R.x (parts_of R.x) t o)
+        from_2 : (R : Ready img w at v n left) → judge R.env R.x ≡ (after2 R.x (D.after.each R).type l1 (gave_2 R).type b.need next λ t o. rest2 R.env R.x (parts_of R.x) t o)
         from_2 R = at_2 R ∙ typed_then _ (gave_2 R).is
 
-        more_2 : (R : Ready img w at v n left) → Then2 (left - 1) v n img p3 R.next (parts_of R.x)
+        more_2 : (R : Ready img w at v n left) → Then2 (left - 1) v n img b.end R.next (parts_of R.x)
         more_2 R = subst (λ (q : ℕ). Then2 (left - 1) v n img q R.next (parts_of R.x)) (gave_2 R).next_is (read_2 R).after
 
         -- there is no third part
@@ -138,25 +140,25 @@ module _ {img w w3 : List ℕ} {at v n left p2 l1 : ℕ} (D : Due2 img w w3 at v
         last_2 f =
             finds D.after.ready frame_6 λ R.
             let z : count (parts_of R.x) ≡ 2 = sym (D.after.each R).many ∙ f in
-            let y : judge R.env R.x ≡ after2 R.x (D.after.each R).type l1 (gave_2 R).type m2 =
+            let y : judge R.env R.x ≡ after2 R.x (D.after.each R).type l1 (gave_2 R).type b.need =
             from_2 R ∙ next_same _ _ _ (λ k l. two_last R.env R.x (parts_of R.x) k l z) ∙ next_typed _ in
-            let q : p3 ≡ R.next = two_more (left - 1) v n img p3 R.next (parts_of R.x) z (more_2 R) in
+            let q : b.end ≡ R.next = two_more (left - 1) v n img b.end R.next (parts_of R.x) z (more_2 R) in
             subst (λ (p : ℕ). Out w6 left n p (judge R.env R.x) s2) q (rw y (out_6 R))
 
         -- there is one
-        stop_2 : {k p : ℕ} → s2 ≡ Refused k p → Finds img w w6 at v n left (Refused k p)
-        stop_2 {k} {p} f =
+        stop_2 : {e : Refusal} → s2 ≡ Err e → Finds img w w6 at v n left (Err e)
+        stop_2 {e} f =
             finds D.after.ready frame_6 λ R.
-            let z = out_refused w6 left n p3 _ (out_6 R) f in
-            let y : judge R.env R.x ≡ refused k p = from_2 R ∙ refused_next _ z in
+            let z = out_refused w6 left n b.end _ (out_6 R) f in
+            let y : judge R.env R.x ≡ refused (number e) (place e) = from_2 R ∙ refused_next _ z in
             rw y
 
-        after_2 : {l2 : ℕ} → s2 ≡ Typed p3 l2 → After2 img w w6 at v n left p3 l2
+        after_2 : {l2 : ℕ} → s2 ≡ gives b.end l2 → After2 img w w6 at v n left b.end l2
         after_2 {l2} f = record { ready = D.after.ready; frame = frame_6; each = goes }
           where
-            goes : (R : Ready img w at v n left) → Goes2 img w w6 at v n left p3 l2 R
+            goes : (R : Ready img w at v n left) → Goes2 img w w6 at v n left b.end l2 R
             goes R =
-                let W : Gave w6 left n p3 (after2 R.x (D.after.each R).type l1 (gave_2 R).type m2) p3 l2 = out_typed w6 left n p3 _ (out_6 R) f in
+                let W : Gave w6 left n b.end (after2 R.x (D.after.each R).type l1 (gave_2 R).type b.need) (record { end = b.end; need = l2 }) = out_typed w6 left n b.end _ (out_6 R) f in
                 record {
                   type = W.type;
                   slotted = W.slotted;
@@ -169,12 +171,12 @@ module _ {img w w3 : List ℕ} {at v n left p2 l1 : ℕ} (D : Due2 img w w3 at v
                 }
 
       -- as the functions answer
-      pub ends_2 : {b : ℕ} {s2 : Answer} {w6 : List ℕ} → AnswersIn2 (λ k. k ≡ b) img at p2 w5 w6 left l1 m2 p3 s2 → get_or img at 0 ≡ b → parts (get_or img at 0) ≡ 2 → Finds img w w6 at v n left s2
+      pub ends_2 : {c : ℕ} {s2 : Answer} {w6 : List ℕ} → AnswersIn2 (λ k. k ≡ c) img at p2 w5 w6 left l1 b.need b.end s2 → get_or img at 0 ≡ c → parts (get_or img at 0) ≡ 2 → Finds img w w6 at v n left s2
       ends_2 A e = last_2 (A n some_2 e)
 
-      module _ {b : ℕ} {ok : Bool} {w6 : List ℕ} (A : TestsIn2 (λ k. k ≡ b) img at w5 w6 left ok) (e : get_or img at 0 ≡ b) where
-        pub other_2 : ok ≡ false → Finds img w w6 at v n left (Refused 12 p2)
-        other_2 f = stop_2 (A p2 l1 m2 p3 n some_2 e) (rw f)
+      module _ {c : ℕ} {r : Result (Unit {0}) Refusal} {w6 : List ℕ} (A : TestsIn2 (λ k. k ≡ c) img at p2 w5 w6 left r) (e : get_or img at 0 ≡ c) where
+        pub other_2 : {e : Refusal} → r ≡ Err e → Finds img w w6 at v n left (Err e)
+        other_2 f = stop_2 (A l1 b.need b.end n some_2 e) (rw f)
 
-        pub fits_2 : ok ≡ true → After2 img w w6 at v n left p3 (bit_or l1 m2)
-        fits_2 f = after_2 (A p2 l1 m2 p3 n some_2 e) (rw f)
+        pub fits_2 : {u : Unit {0}} → r ≡ Ok u → After2 img w w6 at v n left b.end (bit_or l1 b.need)
+        fits_2 f = after_2 (A l1 b.need b.end n some_2 e) (rw f)

@@ -10,17 +10,17 @@ overflow_add-index c = omega (arith, index_in c.requires.0 (after_var c.requires
 pub bounds-img-at : goal.bounds-img-at
 bounds-img-at c = (index_in c.requires.0 (after_var c.requires.0 c.requires.1).0 c.requires.1).0
 
-pub overflow_sub-vars : goal.overflow_sub-vars
-overflow_sub-vars c = omega (arith, index_in c.requires.0 (after_var c.requires.0 c.requires.1).0 c.requires.1)
+pub overflow_sub-scope : goal.overflow_sub-scope
+overflow_sub-scope c = omega (arith, index_in c.requires.0 (after_var c.requires.0 c.requires.1).0 c.requires.1)
 
-pub overflow_sub-vars-2 : goal.overflow_sub-vars-2
-overflow_sub-vars-2 c = omega (arith, index_in c.requires.0 (after_var c.requires.0 c.requires.1).0 c.requires.1)
+pub overflow_sub-scope-2 : goal.overflow_sub-scope-2
+overflow_sub-scope-2 c = omega (arith, index_in c.requires.0 (after_var c.requires.0 c.requires.1).0 c.requires.1)
 
 pub copy-requires : goal.copy-requires
 copy-requires c = rw (c.slot_of-to.ensures, c.var_at-from.ensures) (var_movable c.requires.0 (after_var c.requires.0 c.requires.1).0 c.requires.1)
 
-pub overflow_sub-locks : goal.overflow_sub-locks
-overflow_sub-locks c = omega (arith, var_level c.requires.0 (after_var c.requires.0 c.requires.1).0 c.requires.1 _ c.var_at-from.ensures)
+pub overflow_sub-scope-3 : goal.overflow_sub-scope-3
+overflow_sub-scope-3 c = omega (arith, var_level c.requires.0 (after_var c.requires.0 c.requires.1).0 c.requires.1 _ c.var_at-from.ensures)
 
 pub raise-requires : goal.raise-requires
 raise-requires c = var_able c.requires.0 (after_var c.requires.0 c.requires.1).0 c.requires.1 _ _ _ _ c.var_at-from.ensures c.slot_of-to.ensures (omega arith) c.copy.ensures

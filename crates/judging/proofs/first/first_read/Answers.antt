@@ -6,14 +6,14 @@ use Rattle.judging.proofs.first.first_read.Goals as goal
 pub overflow_sub-left : goal.overflow_sub-left
 overflow_sub-left c = (facts c.requires.2.1).0
 
-pub returns-then-work-from-ne35 : goal.returns-then-work-from-ne35
-returns-then-work-from-ne35 c = λ img at n O e. read_stop O e (rw c.slot_of-from.ensures at c.if-work-from-ne35.true)
+pub returns-then-work-from : goal.returns-then-work-from
+returns-then-work-from c = λ img at n O e. read_stop O e (rw c.slot_of-from.ensures at c.if-work-from.true)
 
 pub copy-requires : goal.copy-requires
-copy-requires c = rw (c.slot_of-from.ensures, c.slot_of.ensures) (content_movable c.requires.2.1 c.requires.2.2 (rw c.slot_of-from.ensures at c.if-work-from-ne35.false))
+copy-requires c = rw (c.slot_of-from.ensures, c.slot_of.ensures) (content_movable c.requires.2.1 c.requires.2.2 (rw c.slot_of-from.ensures at c.if-work-from.false))
 
 pub only-requires : goal.only-requires
-only-requires c = rw c.slot_of-from.ensures (read_name c.requires.2.1 c.requires.2.2 (rw c.slot_of-from.ensures at c.if-work-from-ne35.false))
+only-requires c = rw c.slot_of-from.ensures (read_name c.requires.2.1 c.requires.2.2 (rw c.slot_of-from.ensures at c.if-work-from.false))
 
 pub returns : goal.returns
-returns c = λ img at n O e. rw (c.only.ensures, c.slot_of-from.ensures) (read_go O e _ (rw c.slot_of-from.ensures at c.if-work-from-ne35.false) (rw (c.slot_of-from.ensures, c.slot_of.ensures) at c.copy.ensures))
+returns c = λ img at n O e. rw (c.only.ensures, c.slot_of-from.ensures) (read_go O e _ (rw c.slot_of-from.ensures at c.if-work-from.false) (rw (c.slot_of-from.ensures, c.slot_of.ensures) at c.copy.ensures))

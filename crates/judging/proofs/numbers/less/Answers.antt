@@ -1,9 +1,9 @@
 -- `judging::numbers::less` meets its contract.
 use mathlib.Core.Path.{sym}
 use Rattle.paper.specs.Sets.{single}
-use Rattle.judging.proofs.SetBits.{less_xor}
+use Rattle.judging.proofs.SetBits.{less_and}
 use Rattle.judging.proofs.Gone.{just_small}
 use Rattle.judging.proofs.numbers.less.Goals as goal
 
 pub returns : goal.returns
-returns c = rw c.only-bit.ensures (sym (less_xor c.args.m (single c.args.k) c.ranges.m.fits (just_small 32 c.args.k c.requires)))
+returns c = rw c.only.ensures (sym (less_and c.args.m (single c.args.k) c.ranges.m.fits (just_small 32 c.args.k c.requires)))

@@ -1,12 +1,10 @@
 -- `judging::numbers::only` meets its contract.
+use Prim.Native.Nat.{◌^◌}
 use lib.Pow.{pow-lt}
+use native.Mathlib.Nat.{mod-eq_of_lt, one-mul}
 use Rattle.paper.specs.Sets.{single}
-use borrow.Author.Rules.{rules}
 use Rattle.judging.proofs.numbers.only.Goals as goal
-
-pub overflow_cast-result : goal.overflow_cast-result
-overflow_cast-result c = rw c.power.ensures (record { fits = pow-lt c.requires })
 
 pub returns : goal.returns
 unfolding single
-returns c = search rules
+returns c = rw (one-mul (2 ^ c.args.k)) (mod-eq_of_lt (pow-lt c.requires))

@@ -5,8 +5,8 @@ use Rattle.judging.proofs.second.second_add.Goals as goal
 pub overflow_sub-left : goal.overflow_sub-left
 overflow_sub-left c = (facts c.requires.2.1).0
 
-pub returns-then-work-slot_of-ne33 : goal.returns-then-work-slot_of-ne33
-returns-then-work-slot_of-ne33 c = λ img at n O e. add_stop O e (rw c.slot_of.ensures at c.if-work-slot_of-ne33.true)
+pub returns-then-work-slot_of : goal.returns-then-work-slot_of
+returns-then-work-slot_of c = λ img at n O e. add_stop O e (rw c.slot_of.ensures at c.if-work-slot_of.true)
 
 pub returns : goal.returns
-returns c = λ img at n O e. rw c.slot_of-2.ensures (add_go O e (rw c.slot_of.ensures at c.if-work-slot_of-ne33.false))
+returns c = λ img at n O e. rw c.slot_of-2.ensures (add_go O e (rw c.slot_of.ensures at c.if-work-slot_of.false))

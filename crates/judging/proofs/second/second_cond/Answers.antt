@@ -2,6 +2,7 @@
 use native.Mathlib.Omega.{arith}
 use Rattle.judging.proofs.second.Plain.{facts}
 use Rattle.judging.proofs.second.Cond.{cond_stop, cond_go}
+use Rattle.judging.proofs.Refused.{missing, a_value}
 use Rattle.judging.proofs.second.second_cond.Goals as goal
 
 pub overflow_sub-left : goal.overflow_sub-left
@@ -10,8 +11,8 @@ overflow_sub-left c = (facts c.requires.1).0
 pub overflow_add-at : goal.overflow_add-at
 overflow_add-at c = omega (arith, (facts c.requires.1).2)
 
-pub returns-in-Differ : goal.returns-in-Differ
-returns-in-Differ c = λ part m need next n O e. cond_stop O (rw c.slot_of.ensures at c.related.ensures) e c.in-Differ.is
+pub returns-in_err-ok_or : goal.returns-in_err-ok_or
+returns-in_err-ok_or c = let h = missing _ _ _ c.ok_or.ensures.value c.in_err-ok_or.was c.from_residual.ensures in λ m need next n O e. rw h.1 (cond_stop O (rw c.slot_of-from.ensures at c.related.ensures) e h.0)
 
-pub returns-in-Next : goal.returns-in-Next
-returns-in-Next c = λ part m need next n O e. rw c.slot_of-in-Next.ensures (cond_go O (rw c.slot_of.ensures at c.related.ensures) e _ c.in-Next.is)
+pub returns : goal.returns
+returns c = λ m need next n O e. rw c.slot_of.ensures (cond_go O (rw c.slot_of-from.ensures at c.related.ensures) e _ (a_value _ _ c.ok_or.ensures.value c.in_ok-ok_or.was))

@@ -1,6 +1,7 @@
 -- `judging::second::second_write` meets its contract.
 use Rattle.judging.proofs.second.Plain.{facts}
 use Rattle.judging.proofs.second.Write.{write_name, write_stop, write_go}
+use Rattle.judging.proofs.Refused.{missing, a_value}
 use Rattle.judging.proofs.second.second_write.Goals as goal
 
 pub overflow_sub-left : goal.overflow_sub-left
@@ -9,8 +10,8 @@ overflow_sub-left c = (facts c.requires.2.1).0
 pub only-requires : goal.only-requires
 only-requires c = rw c.slot_of-to.ensures (write_name c.requires.2.1 c.requires.2.2)
 
-pub returns-in-Differ : goal.returns-in-Differ
-returns-in-Differ c = λ img at n O e. write_stop O (rw (c.slot_of-to.ensures, c.slot_of.ensures) at c.related.ensures) e c.in-Differ.is
+pub returns-in_err-ok_or : goal.returns-in_err-ok_or
+returns-in_err-ok_or c = let h = missing _ _ _ c.ok_or.ensures.value c.in_err-ok_or.was c.from_residual.ensures in λ img at n O e. rw h.1 (write_stop O (rw (c.slot_of-to.ensures, c.slot_of-from.ensures) at c.related.ensures) e h.0)
 
-pub returns-in-Next : goal.returns-in-Next
-returns-in-Next c = λ img at n O e. rw (c.only.ensures, c.slot_of-to.ensures) (write_go O (rw (c.slot_of-to.ensures, c.slot_of.ensures) at c.related.ensures) e _ c.in-Next.is)
+pub returns : goal.returns
+returns c = λ img at n O e. rw (c.only.ensures, c.slot_of-to.ensures) (write_go O (rw (c.slot_of-to.ensures, c.slot_of-from.ensures) at c.related.ensures) e _ (a_value _ _ c.ok_or.ensures.value c.in_ok-ok_or.was))

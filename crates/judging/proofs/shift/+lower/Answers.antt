@@ -6,91 +6,56 @@ use Prim.Native.Nat.{◌+◌}
 use borrow.Author.Rules.{rules}
 use native.Mathlib.Omega.{arith}
 use mathlib.Core.Path.{refl, ◌∙◌}
+use Rattle.judging.proofs.copies.Codes.{byte_of, is_leaf}
 use Rattle.judging.proofs.shift.+lower.Goals as goal
 
-pub bounds-s-at : goal.bounds-s-at
-bounds-s-at t c = (low_here c.args.s.now c.args.at c.requires)
-
-pub overflow_add-at : goal.overflow_add-at
-overflow_add-at t c = omega (arith, (low_here c.args.s.now c.args.at c.requires))
+pub code_at-requires : goal.code_at-requires
+code_at-requires t c = (c.requires.2, c.requires.3)
 
 pub lower_name-requires : goal.lower_name-requires
-lower_name-requires t c = low_lock c.args.s.now c.args.at c.in-34.is c.requires
+lower_name-requires t c = low_lock c.args.s.now c.args.at (byte_of c.code_at.ensures c.in-Lock.is) c.requires
 
-pub overflow_add-result : goal.overflow_add-result
-overflow_add-result t c = omega (arith, low_lock c.args.s.now c.args.at c.in-34.is c.requires)
+pub returns-in_err-lower_name-in-Lock : goal.returns-in_err-lower_name-in-Lock
+returns-in_err-lower_name-in-Lock t c = let h = rw c.in_err-lower_name-in-Lock.was at c.lower_name.ensures in rw (c.from_residual.ensures, h.1) (lock_stop c.args.s.now c.args.at (byte_of c.code_at.ensures c.in-Lock.is) h.0)
 
-pub overflow_add-at-in-35 : goal.overflow_add-at-in-35
-overflow_add-at-in-35 t c = omega (arith, (low_here c.args.s.now c.args.at c.requires))
+pub returns-in_ok-lower_name-in-Lock : goal.returns-in_ok-lower_name-in-Lock
+returns-in_ok-lower_name-in-Lock t c = let h = rw c.in_ok-lower_name-in-Lock.was at c.lower_name.ensures in rw h.1 (lock_low c.args.s.now c.args.at (byte_of c.code_at.ensures c.in-Lock.is) h.0)
 
-pub lower_name-requires-in-35 : goal.lower_name-requires-in-35
-lower_name-requires-in-35 t c = low_ref c.args.s.now c.args.at c.in-35.is c.requires
+pub lower_name-requires-in-Ref : goal.lower_name-requires-in-Ref
+lower_name-requires-in-Ref t c = low_ref c.args.s.now c.args.at (byte_of c.code_at.ensures c.in-Ref.is) c.requires
 
-pub overflow_add-at-then-lower_name-2 : goal.overflow_add-at-then-lower_name-2
-overflow_add-at-then-lower_name-2 t c = omega (arith, low_ref c.args.s.now c.args.at c.in-35.is c.requires)
+pub returns-in_err-lower_name-in-Ref : goal.returns-in_err-lower_name-in-Ref
+returns-in_err-lower_name-in-Ref t c = let h = rw c.in_err-lower_name-in-Ref.was at c.lower_name-in-Ref.ensures in rw (c.from_residual-in_err-lower_name-in-Ref.ensures, h.1) (ref_stop c.args.s.now c.args.at (byte_of c.code_at.ensures c.in-Ref.is) h.0)
 
 pub lower-requires : goal.lower-requires
-lower-requires t c = (less (length c.args.s.now) _ c.args.at (c.args.at + 2) _ c.decreases c.lower_name-in-35.auto.s (omega arith) (low_here c.args.s.now c.args.at c.requires), rw (rw c.if-lower_name-2.true at c.lower_name-in-35.ensures).1 (low_inner c.args.s.now c.args.at _ c.in-35.is c.requires))
+lower-requires t c = (less (length c.args.s.now) _ c.args.at (c.args.at + 2) _ c.decreases c.lower_name-in-Ref.auto.s (omega arith) (low_here c.args.s.now c.args.at c.requires), rw (rw c.in_ok-lower_name-in-Ref.was at c.lower_name-in-Ref.ensures).1 (low_inner c.args.s.now c.args.at _ (byte_of c.code_at.ensures c.in-Ref.is) c.requires))
 
-pub overflow_add-at-in-36 : goal.overflow_add-at-in-36
-overflow_add-at-in-36 t c = omega (arith, (low_here c.args.s.now c.args.at c.requires))
+pub returns-in_ok-lower_name-in-Ref : goal.returns-in_ok-lower_name-in-Ref
+returns-in_ok-lower_name-in-Ref t c = let h = rw c.in_ok-lower_name-in-Ref.was at c.lower_name-in-Ref.ensures in ref_low c.args.s.now c.args.at _ _ (byte_of c.code_at.ensures c.in-Ref.is) h.0 (rw h.1 at c.lower.ensures)
 
-pub lower-requires-in-36 : goal.lower-requires-in-36
-lower-requires-in-36 t c = (less _ _ _ _ _ c.decreases refl (omega arith) (low_here c.args.s.now c.args.at c.requires), low_arg c.args.s.now c.args.at c.in-36.is c.requires)
+pub lower-requires-in-Function : goal.lower-requires-in-Function
+lower-requires-in-Function t c = (less _ _ _ _ _ c.decreases refl (omega arith) (low_here c.args.s.now c.args.at c.requires), low_arg c.args.s.now c.args.at (byte_of c.code_at.ensures c.in-Function.is) c.requires)
+
+pub returns-in_err-p-in-Function : goal.returns-in_err-p-in-Function
+returns-in_err-p-in-Function t c = rw c.from_residual-in_err-p-in-Function.ensures (arg_stop c.args.s.now c.args.at (byte_of c.code_at.ensures c.in-Function.is) _ c.lower-in-Function.ensures c.in_err-p-in-Function.was)
 
 pub lower_set-requires : goal.lower_set-requires
-lower_set-requires t c = low_set c.args.s.now c.args.at c.in-36.is c.requires c.lower-in-36.new.s c.in-Next.p c.in-Next.is c.lower-in-36.ensures
+lower_set-requires t c = low_set c.args.s.now c.args.at (byte_of c.code_at.ensures c.in-Function.is) c.requires c.lower-in-Function.new.s _ c.in_ok-p-in-Function.was c.lower-in-Function.ensures
+
+pub returns-in_err-lower_set-in-Function : goal.returns-in_err-lower_set-in-Function
+returns-in_err-lower_set-in-Function t c = let h = rw c.in_err-lower_set-in-Function.was at c.lower_set.ensures in rw (c.from_residual-in_err-lower_set-in-Function.ensures, h.1) (set_stop c.args.s.now c.args.at (byte_of c.code_at.ensures c.in-Function.is) _ c.lower-in-Function.ensures _ c.in_ok-p-in-Function.was h.0)
 
 pub overflow_add-p : goal.overflow_add-p
-overflow_add-p t c = omega (arith, low_set c.args.s.now c.args.at c.in-36.is c.requires c.lower-in-36.new.s c.in-Next.p c.in-Next.is c.lower-in-36.ensures, c.lower-in-36.auto.s)
+overflow_add-p t c = omega (arith, low_set c.args.s.now c.args.at (byte_of c.code_at.ensures c.in-Function.is) c.requires c.lower-in-Function.new.s _ c.in_ok-p-in-Function.was c.lower-in-Function.ensures, c.lower-in-Function.auto.s)
 
-pub lower-requires-then-lower_set : goal.lower-requires-then-lower_set
-lower-requires-then-lower_set t c = (less _ _ _ _ _ c.decreases (c.lower_set.auto.s ∙ c.lower-in-36.auto.s) (low_past c.args.s.now c.args.at c.in-36.is c.requires c.lower-in-36.new.s c.in-Next.p c.in-Next.is c.lower-in-36.ensures) (low_here c.args.s.now c.args.at c.requires), rw (rw c.if-lower_set.true at c.lower_set.ensures).1 (low_result c.args.s.now c.args.at c.in-36.is c.requires c.lower-in-36.new.s c.in-Next.p c.in-Next.is c.lower-in-36.ensures _))
+pub lower-requires-in-Function-2 : goal.lower-requires-in-Function-2
+lower-requires-in-Function-2 t c = (less _ _ _ _ _ c.decreases (c.lower_set.auto.s ∙ c.lower-in-Function.auto.s) (low_past c.args.s.now c.args.at (byte_of c.code_at.ensures c.in-Function.is) c.requires c.lower-in-Function.new.s _ c.in_ok-p-in-Function.was c.lower-in-Function.ensures) (low_here c.args.s.now c.args.at c.requires), rw (rw c.in_ok-lower_set-in-Function.was at c.lower_set.ensures).1 (low_result c.args.s.now c.args.at (byte_of c.code_at.ensures c.in-Function.is) c.requires c.lower-in-Function.new.s _ c.in_ok-p-in-Function.was c.lower-in-Function.ensures _))
+
+pub returns-in_ok-lower_set-in-Function : goal.returns-in_ok-lower_set-in-Function
+returns-in_ok-lower_set-in-Function t c = let h = rw c.in_ok-lower_set-in-Function.was at c.lower_set.ensures in fun_low c.args.s.now c.args.at (byte_of c.code_at.ensures c.in-Function.is) _ c.lower-in-Function.ensures _ c.in_ok-p-in-Function.was _ _ h.0 (rw h.1 at c.lower-in-Function-2.ensures)
 
 pub overflow_add-result-in_default : goal.overflow_add-result-in_default
-overflow_add-result-in_default t c = omega (arith, (low_here c.args.s.now c.args.at c.requires))
-
-pub shape_of-s-then-lower_name : goal.shape_of-s-then-lower_name
-shape_of-s-then-lower_name t c = c.lower_name.auto.s
-
-pub returns-then-lower_name : goal.returns-then-lower_name
-returns-then-lower_name t c = rw (rw c.if-lower_name.true at c.lower_name.ensures).1 (lock_low c.args.s.now c.args.at c.in-34.is (rw c.if-lower_name.true at c.lower_name.ensures).0)
-
-pub shape_of-s-else-lower_name : goal.shape_of-s-else-lower_name
-shape_of-s-else-lower_name t c = c.lower_name.auto.s
-
-pub returns-else-lower_name : goal.returns-else-lower_name
-returns-else-lower_name t c = rw (rw c.if-lower_name.false at c.lower_name.ensures).1 (lock_stop c.args.s.now c.args.at c.in-34.is (rw c.if-lower_name.false at c.lower_name.ensures).0)
-
-pub shape_of-s-then-lower_name-2 : goal.shape_of-s-then-lower_name-2
-shape_of-s-then-lower_name-2 t c = c.lower.auto.s ∙ c.lower_name-in-35.auto.s
-
-pub returns-then-lower_name-2 : goal.returns-then-lower_name-2
-returns-then-lower_name-2 t c = ref_low c.args.s.now c.args.at _ _ c.in-35.is (rw c.if-lower_name-2.true at c.lower_name-in-35.ensures).0 (rw (rw c.if-lower_name-2.true at c.lower_name-in-35.ensures).1 at c.lower.ensures)
-
-pub shape_of-s-else-lower_name-2 : goal.shape_of-s-else-lower_name-2
-shape_of-s-else-lower_name-2 t c = c.lower_name-in-35.auto.s
-
-pub returns-else-lower_name-2 : goal.returns-else-lower_name-2
-returns-else-lower_name-2 t c = rw (rw c.if-lower_name-2.false at c.lower_name-in-35.ensures).1 (ref_stop c.args.s.now c.args.at c.in-35.is (rw c.if-lower_name-2.false at c.lower_name-in-35.ensures).0)
-
-pub shape_of-s-in-Mentions : goal.shape_of-s-in-Mentions
-shape_of-s-in-Mentions t c = c.lower-in-36.auto.s
-
-pub returns-in-Mentions : goal.returns-in-Mentions
-returns-in-Mentions t c = arg_stop c.args.s.now c.args.at c.in-36.is _ c.lower-in-36.ensures c.in-Mentions.is
-
-pub shape_of-s-then-lower_set : goal.shape_of-s-then-lower_set
-shape_of-s-then-lower_set t c = c.lower-then-lower_set.auto.s ∙ c.lower_set.auto.s ∙ c.lower-in-36.auto.s
-
-pub returns-then-lower_set : goal.returns-then-lower_set
-returns-then-lower_set t c = fun_low c.args.s.now c.args.at c.in-36.is _ c.lower-in-36.ensures _ c.in-Next.is _ _ (rw c.if-lower_set.true at c.lower_set.ensures).0 (rw (rw c.if-lower_set.true at c.lower_set.ensures).1 at c.lower-then-lower_set.ensures)
-
-pub shape_of-s-else-lower_set : goal.shape_of-s-else-lower_set
-shape_of-s-else-lower_set t c = c.lower_set.auto.s ∙ c.lower-in-36.auto.s
-
-pub returns-else-lower_set : goal.returns-else-lower_set
-returns-else-lower_set t c = rw (rw c.if-lower_set.false at c.lower_set.ensures).1 (set_stop c.args.s.now c.args.at c.in-36.is _ c.lower-in-36.ensures _ c.in-Next.is (rw c.if-lower_set.false at c.lower_set.ensures).0)
+overflow_add-result-in_default t c = omega (arith, low_here c.args.s.now c.args.at c.requires)
 
 pub returns-in_default : goal.returns-in_default
-returns-in_default t c = leaf c.args.s.now c.args.at (search rules) (search rules) (search rules)
+returns-in_default t c = let z = is_leaf _ c.code_at.ensures c.in_default.not-Lock c.in_default.not-Ref c.in_default.not-Function in leaf c.args.s.now c.args.at (λ e. omega arith) (λ e. omega arith) (λ e. omega arith)

@@ -1,0 +1,10 @@
+-- `judging::copies::code_at` meets its contract: where a type is, a type's code is.
+use Rattle.judging.proofs.copies.Codes.{is_code}
+use Rattle.judging.proofs.copies.Laws.{end_here}
+use Rattle.judging.proofs.copies.code_at.Goals as goal
+
+pub bounds-s-at : goal.bounds-s-at
+bounds-s-at c = end_here _ _ c.requires
+
+pub unreachable-requires : goal.unreachable-requires
+unreachable-requires c = is_code _ _ c.requires c.try_from.ensures c.in-Err.is
