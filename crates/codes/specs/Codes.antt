@@ -138,6 +138,10 @@ exp_decodes_one b (Ok c) (Err e) h k = out (exp_in c) h k
 exp_decodes_one b (Err e) (Ok d) h k = out (exp_in d) k h
 exp_decodes_one b (Err e) (Err f) h k = refl
 
--- no two codes of expressions have one byte
+-- ---- the byte of a code is one that is due, and no other code's
+
+pub exp_byte_due : (c : ExpCode) → (exp_byte c < 0x01) ⊎ (0x0F < exp_byte c) → ⊥
+exp_byte_due c h = out (exp_in c) refl h
+
 pub exp_byte_one : (c d : ExpCode) → exp_byte c ≡ exp_byte d → c ≡ d
-exp_byte_one c d e = let q : ◌≡◌ {A = Result ExpCode NoSuchCode} (Ok c) (Ok d) = exp_decodes_one (exp_byte d) (Ok c) (Ok d) e refl in cc
+exp_byte_one c d e = let p = exp_decodes_one (exp_byte d) (Ok c) (Ok d) e refl in cc

@@ -6,23 +6,26 @@ use Rattle.paper.specs.Base.{bytes4}
 use Rattle.paper.specs.Types.{ty_bytes}
 use Rattle.paper.specs.Expressions.{Exp, exp_bytes}
 use Rattle.paper.specs.Terms.{erase, term_bytes}
+use Rattle.codes.specs.declared.ExpCode.{ExpCode}
+use Rattle.codes.specs.declared.ExpCode.TheVariants as codes
+use Rattle.codes.specs.Codes.{exp_byte}
 
-abbrev pub code_of : Exp → ℕ
-code_of Exp.unit = 0x01
-code_of (Exp.num k) = 0x02
-code_of (Exp.var k) = 0x03
-code_of (Exp.fun t p e) = 0x04
-code_of (Exp.app a b) = 0x05
-code_of (Exp.cell m t e) = 0x06
-code_of (Exp.read e) = 0x07
-code_of (Exp.write a b) = 0x08
-code_of (Exp.fork e) = 0x09
-code_of (Exp.newlock e) = 0x0A
-code_of (Exp.sync a b) = 0x0B
-code_of (Exp.bind a b) = 0x0C
-code_of (Exp.seq a b) = 0x0D
-code_of (Exp.add a b) = 0x0E
-code_of (Exp.cond t a b e) = 0x0F
+abbrev pub code_of : Exp → ExpCode
+code_of Exp.unit = codes.Unit
+code_of (Exp.num k) = codes.Number
+code_of (Exp.var k) = codes.Variable
+code_of (Exp.fun t p e) = codes.Function
+code_of (Exp.app a b) = codes.Apply
+code_of (Exp.cell m t e) = codes.NewCell
+code_of (Exp.read e) = codes.Read
+code_of (Exp.write a b) = codes.Write
+code_of (Exp.fork e) = codes.Fork
+code_of (Exp.newlock e) = codes.NewLock
+code_of (Exp.sync a b) = codes.Section
+code_of (Exp.bind a b) = codes.Let
+code_of (Exp.seq a b) = codes.Then
+code_of (Exp.add a b) = codes.Add
+code_of (Exp.cond t a b e) = codes.If
 
 -- the fields that stay after the code
 abbrev pub stay : Exp → List ℕ
@@ -79,7 +82,7 @@ parts (Exp.add a b) r = a ∷ b ∷ r
 parts (Exp.cond t a b e) r = a ∷ b ∷ e ∷ r
 
 abbrev pub own : Exp → List ℕ
-own x = code_of x ∷ stay x
+own x = exp_byte (code_of x) ∷ stay x
 
 -- ---- expressions one after another: their bytes, and those of their erased forms
 

@@ -1,55 +1,44 @@
 // The erased form of an image that was read. In prefix order that is one walk from code to code: each code is copied, with a number's or a
 // variable's field, and types, sets and the lock name of 06 are passed over. So nothing is kept of the nesting.
-ghost use Rattle.std.specs.Prelude.{◌+◌, ◌≤◌, ◌<◌, length};
-ghost use Rattle.loads.specs.Steps.{Stays, TypePassed, PartsAt, Copied};
+ghost use Rattle.std.specs.Prelude.{◌≡◌, ◌<◌};
+ghost use Rattle.loads.specs.Steps.{kept, TypePassed, PartsAt};
 ghost use Rattle.loads.specs.Walk.{Erasable, Erased};
 
-use types::stated::Got;
+use codes::ExpCode;
 
 // How many bytes of an expression with this code stay: the code, and a number or an index.
-fn stays(code: u8) -> usize
-    ensures { Stays code result }
+#[tactic(auto, using(crate::proofs::erasing::Parts::kept_code))]
+fn stays(code: ExpCode) -> usize
+    ensures { result ≡ kept code }
 {
     match code {
-        2 => 5,
-        3 => 2,
+        ExpCode::Number => 5,
+        ExpCode::Variable => 2,
         _ => 1,
     }
 }
 
 // The place after the stated type at `at`. The image was read, so its names are bound, under 32 locks at most.
+#[tactic(auto, using(crate::proofs::erasing::Types::type_passed))]
 fn after_type(s: &[u8], at: usize) -> usize
     ensures { TypePassed s.now at result }
 {
-    match types::stated::read_stated(s, at, 32) {
-        Got::Next(p) => p,
-        Got::Refused(_, _) => at,
-    }
+    types::stated::read_stated(s, at, 32).unwrap_or(at)
 }
 
 // Where the parts of the expression at `at` begin.
-fn parts_at(s: &[u8], at: usize, code: u8) -> usize
+#[tactic(auto, using(crate::proofs::erasing::Parts::no_fields))]
+fn parts_at(s: &[u8], at: usize, code: ExpCode) -> usize
     requires { at < 4096 }
     ensures { PartsAt s.now at code result }
 {
     match code {
-        2 => at + 5,
-        3 => at + 2,
-        4 => after_type(s, at + 1) + 4,
-        6 => after_type(s, at + 2),
-        15 => after_type(s, at + 1),
+        ExpCode::Number => at + 5,
+        ExpCode::Variable => at + 2,
+        ExpCode::Function => after_type(s, at + 1) + 4,
+        ExpCode::NewCell => after_type(s, at + 2),
+        ExpCode::If => after_type(s, at + 1),
         _ => at + 1,
-    }
-}
-
-fn copy_in(s: &[u8], from: usize, n: usize, out: &mut [u8], to: usize)
-    requires { (from + n ≤ length s.now) × (to + n ≤ length out.old) }
-    ensures { Copied s.now from n out.old out.new to }
-{
-    let mut i = 0;
-    while i < n {
-        out[to + i] = s[from + i];
-        i += 1;
     }
 }
 
@@ -60,10 +49,11 @@ pub(crate) fn erase(image: &[u8], out: &mut [u8]) -> usize
 {
     let mut at = 3;
     let mut n = 0;
+    // Both places go on by the widths of expressions, which no iterator counts. The image was read, so a code stands at each.
     while at < image.len() {
-        let code = image[at];
+        let code = ExpCode::try_from(image[at]).unwrap();
         let stay = stays(code);
-        copy_in(image, at, stay, out, n);
+        out[n..n + stay].copy_from_slice(&image[at..at + stay]);
         n += stay;
         at = parts_at(image, at, code);
     }

@@ -1,34 +1,24 @@
+// The judge's text.
 ghost use Rattle.texts.specs.JudgeText.{JudgeTexts};
 
 use crate::lines::{accept_line, refuse_line};
-use judging::entry::{Verdict, judge};
+use judging::entry::judge;
 
-// What a function that writes a text answers: its length, or that a lent buffer is too short.
-#[derive(Clone, Copy)]
-pub enum Text {
-    Written(usize),
-    ShortBuffer,
-}
+// A lent buffer is too short for the work or the text.
+#[derive(Clone, Copy, Debug, PartialEq, Eq)]
+pub struct ShortBuffer;
 
-// The judge's line for an image, first in the lent buffer.
-pub fn judge_text(image: &[u8], work: &mut [u8], out: &mut [u8]) -> Text
+// The judge's line for an image, first in the lent buffer; how many bytes it has.
+pub fn judge_text(image: &[u8], work: &mut [u8], out: &mut [u8]) -> Result<usize, ShortBuffer>
     ensures { JudgeTexts image.now work.old out.old result work.new out.new }
 {
-    if work.len() < 40960 {
-        return Text::ShortBuffer;
-    }
-    if out.len() < 520 {
-        return Text::ShortBuffer;
+    if work.len() < 40960 || out.len() < 520 {
+        return Err(ShortBuffer);
     }
     let mut types = [0u8; 256];
-    match judge(image, &mut types, work) {
-        Verdict::Accepted(n) => {
-            let end = accept_line(&types[..n], out);
-            Text::Written(end)
-        }
-        Verdict::Refused(n, place) => {
-            let end = refuse_line(n, place, out);
-            Text::Written(end)
-        }
-    }
+    let end = match judge(image, &mut types, work) {
+        Ok(n) => accept_line(&types[..n], out),
+        Err(refusal) => refuse_line(refusal, out),
+    };
+    Ok(end)
 }

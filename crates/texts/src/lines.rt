@@ -1,7 +1,9 @@
 // The two forms of the judge's line, first in a lent buffer, as far as there is room. Each answers the place after its newline, as `writing` does.
+ghost use Rattle.answers.specs.Numbers as answers;
 ghost use Rattle.writing.specs.Written.{Written};
 ghost use Rattle.texts.specs.Lines.{accept_line, refuse_line};
 
+use answers::Refusal;
 use writing::{fill, hex, number};
 
 // `accept` and the type, whose bytes are lent.
@@ -14,10 +16,10 @@ pub(crate) fn accept_line(bytes: &[u8], out: &mut [u8]) -> usize
 }
 
 // `refuse`, number, place.
-pub(crate) fn refuse_line(n: u8, place: usize, out: &mut [u8]) -> usize
-    ensures { Written (refuse_line n place) out.old out.new result }
+pub(crate) fn refuse_line(refusal: Refusal, out: &mut [u8]) -> usize
+    ensures { Written (refuse_line (answers.number refusal) (answers.place refusal)) out.old out.new result }
 {
     let first = fill(b"refuse ", out, 0);
-    let second = number(n as u64, b' ', out, first);
-    number(place as u64, b'\n', out, second)
+    let second = number(u64::from(refusal.number()), b' ', out, first);
+    number(refusal.place() as u64, b'\n', out, second)
 }

@@ -1,10 +1,9 @@
 -- The first state of what was read is a state, and the three stores lay it down. Assumes nothing.
-use mathlib.Core.Path.{◌≡◌, refl, sym, ap, subst}
+use mathlib.Core.Path.{◌≡◌, refl, ap, subst}
 use mathlib.Core.Bool.{true}
 use mathlib.Core.List.{List}
 use Prim.Native.Nat.{ℕ, ◌+◌, ◌*◌, ◌≤◌}
 use native.Mathlib.Omega.{arith}
-use native.Mathlib.Nat.{mul-zero}
 use lib.ListN.{length}
 use Rattle.paper.specs.Base.{Bytes}
 use Rattle.paper.specs.Expressions.{Exp}
@@ -53,27 +52,25 @@ thread_small : (card : Card) (e : Term) → good card (start e) ≡ true → len
 thread_small card e g = all_get (good_fits card (start e) g).each_thread_bytes 0 refl
 
 module _ (card : Card) (e : Term) (g : good card (start e) ≡ true) where
-  stored : (b s m : List ℕ) → b ≡ term_bytes e → Fits card → total card ≤ length s → Stores 256 card.thread_bytes 38 b s m → ThreadStored card 0 e s m
+  stored : (b s m : List ℕ) → b ≡ term_bytes e → Fits card → total card ≤ length s → Stores (256 + card.thread_bytes * 0) card.thread_bytes 38 b s m → ThreadStored card 0 e s m
   unfolding total
   stored b s m q f l st =
-      let z : 256 ≡ 256 + card.thread_bytes * 0 = omega (arith, mul-zero card.thread_bytes) in
       let k : length b ≤ card.thread_bytes = omega (arith, ap length q, thread_small card e g) in
       let room = slot_end card.threads card.thread_bytes 0 f.one in
       subst (λ (x : List ℕ). Stored (256 + card.thread_bytes * 0) card.thread_bytes 38 x s m) q
-      (subst (λ (a : ℕ). Stored a card.thread_bytes 38 b s m) z
-      (st.made (record { bytes = k; slot = omega arith; before_slot = omega arith })))
+      (st.made (record { bytes = k; slot = omega arith; before_slot = omega arith }))
 
 least : (card : Card) → 256 ≤ total card
 unfolding total
 least card = omega arith
 
-pub lays : (size slot : ℕ) (b s m n r : List ℕ) → Blanks size s m → Stores 256 slot 38 b m n → Puts 3 1 n r → Lays size slot b s r
-lays size slot b s m n r B T P = record {
-  lays = λ card N e q g h.
-      let l : total card ≤ length s = omega (arith, N.state) in
-      let v = blanked card l (rw (sym N.state) at B) in
+pub lays : (card : Card) → Fits card → (b s m n r : List ℕ) → Blanks (total card) s m → Stores (256 + card.thread_bytes * 0) card.thread_bytes 38 b m n → Puts 3 1 n r
+    → Lays card b s r
+lays card f b s m n r B T P = record {
+  lays = λ e q g h.
+      let v = blanked card h B in
       let k : total card ≤ length m = omega (arith, v.kept) in
-      let st = stored card e g b m n q N.fits k (rw (sym N.thread) at T) in
+      let st = stored card e g b m n q f k T in
       let long = least card in
-      start_laid card N.fits e g l v st (P.made (omega (arith, st.kept)));
+      start_laid card f e g h v st (P.made (omega (arith, st.kept)));
 }

@@ -4,6 +4,8 @@ use mathlib.Core.Bool.{Bool, true, false, ◌||◌}
 use mathlib.Core.List.{List}
 use Prim.Native.Nat.{ℕ, ◌<◌, ◌≤◌}
 use native.Mathlib.Omega.{arith}
+use mathlib.Core.Logic.{◌⊎◌, inl, inr}
+use Rattle.std.specs.Prelude.{Result, Ok, Err}
 use lib.Dec.{ltb}
 use lib.ListN.{length}
 use borrow.Author.Tests.{lt-ltb, le-ltb}
@@ -13,13 +15,13 @@ use Rattle.paper.specs.Verdict.{Out, ok, refused, ◌▷◌, verdict}
 use Rattle.paper.specs.States.{Card, State, total}
 use Rattle.paper.specs.Loads.{raw, judged}
 use Rattle.paper.specs.Calls.{laid, zeroed, type_bytes, work_bytes, JudgeCall, judge_call, after_raw, JudgedCall, after_judged, judged_call}
-use Rattle.judging.specs.declared.entry.Verdict.{Verdict}
-use Rattle.judging.specs.declared.entry.Verdict.TheVariants as verdicts
+use Rattle.answers.specs.declared.Refusal.{Refusal}
+use Rattle.answers.specs.declared.Refusal.TheVariants.{ShortBuffer}
+use Rattle.answers.specs.Numbers.{number, place}
+use Rattle.answers.specs.Said.{said}
 use Rattle.judging.specs.Entry.{Judges}
-use Rattle.loads.specs.declared.entry.Loaded.{Loaded}
-use Rattle.loads.specs.declared.entry.Loaded.TheVariants.{Refused}
-use Rattle.loads.specs.Contract.{said, JudgedOn}
-use Rattle.loads.specs.Loading.{Numbers, Loads, JudgedEach}
+use Rattle.loads.specs.Contract.{Answer, JudgedOn}
+use Rattle.loads.specs.Loading.{Loads}
 
 -- ---- a short buffer
 
@@ -36,7 +38,7 @@ module _ (image s w : List ℕ) where
   unfolding judged_call work_bytes
   call_is card b e = ap (by_lengths card) e
 
-  stands : (card : Card) {c : JudgedCall} {r : Loaded} {s' w' : List ℕ} → judged_call card image s w ≡ c → said r ≡ c.says → s' ≡ c.state → w' ≡ c.work
+  stands : (card : Card) {c : JudgedCall} {r : Answer} {s' w' : List ℕ} → judged_call card image s w ≡ c → said r ≡ c.says → s' ≡ c.state → w' ≡ c.work
       → JudgedOn card image s w r s' w'
   stands card q a b d =
       record {
@@ -45,23 +47,19 @@ module _ (image s w : List ℕ) where
         work = d ∙ ap (λ (c : JudgedCall). c.work) (sym q);
       }
 
-  pub short_state : {size slot : ℕ} → length s < size → JudgedEach size slot image s w (Refused 1 0) s w
-  short_state h = record {
-    each = λ card N.
-        stands card (call_is card true (ap (◌|| ltb (length w) 40960) (lt-ltb (length s) (total card) (omega (arith, N.state))))) refl refl refl;
-  }
-
-  pub short_work : {size slot : ℕ} → length w < 40960 → JudgedEach size slot image s w (Refused 1 0) s w
-  short_work h = record {
-    each = λ card N. stands card (call_is card true (or_true (ltb (length s) (total card)) _ (lt-ltb (length w) 40960 h))) refl refl refl;
-  }
+  pub short_either : (card : Card) → (length s < total card) ⊎ ((total card ≤ length s) × (length w < 40960)) → JudgedOn card image s w (Err ShortBuffer) s w
+  short_either card h = stands card (call_is card true (short h)) refl refl refl
+    where
+      short : (length s < total card) ⊎ ((total card ≤ length s) × (length w < 40960)) → (ltb (length s) (total card) || ltb (length w) 40960) ≡ true
+      short (inl h) = ap (◌|| ltb (length w) 40960) (lt-ltb (length s) (total card) h)
+      short (inr h) = or_true (ltb (length s) (total card)) _ (lt-ltb (length w) 40960 h.1)
 
 -- ---- the judge's answer
 
 -- what the judge said of the image, and that it zeroed the work buffer
-record Judged (image w : List ℕ) (v : Verdict) (w' : List ℕ) : Type 0 where
-  accepts : (n : ℕ) → v ≡ verdicts.Accepted n → (t : Ty) × (verdict image ≡ ok t)
-  refuses : (k p : ℕ) → v ≡ verdicts.Refused k p → verdict image ≡ refused k p
+record Judged (image w : List ℕ) (v : Result ℕ Refusal) (w' : List ℕ) : Type 0 where
+  accepts : (n : ℕ) → v ≡ Ok n → (t : Ty) × (verdict image ≡ ok t)
+  refuses : (e : Refusal) → v ≡ Err e → verdict image ≡ refused (number e) (place e)
   zeroes : w' ≡ zeroed w
 
 module _ (image t w : List ℕ) (a : 256 ≤ length t) (b : 40960 ≤ length w) where
@@ -79,7 +77,7 @@ module _ (image t w : List ℕ) (a : 256 ≤ length t) (b : 40960 ≤ length w) 
   unfolding judge_call type_bytes work_bytes
   judge_long = ap judge_lengths (ap₂ (λ (x y : Bool). x || y) (le-ltb (length t) 256 a) (le-ltb (length w) 40960 b))
 
-  judged_by : {v : Verdict} {t' w' : List ℕ} → Judges image t w v t' w' → Judged image w v w'
+  judged_by : {v : Result ℕ Refusal} {t' w' : List ℕ} → Judges image t w v t' w' → Judged image w v w'
   judged_by {v} {t'} {w'} J = go (verdict image) refl (judge_long)
     where
       go : (o : Out Ty) → verdict image ≡ o → judge_call image t w ≡ after o → Judged image w v w'
@@ -87,14 +85,14 @@ module _ (image t w : List ℕ) (a : 256 ≤ length t) (b : 40960 ≤ length w) 
           let f = J.says ∙ ap (λ (c : JudgeCall). c.says) e in
           record {
             accepts = λ n h. (x, q);
-            refuses = λ k p h. let z : ◌≡◌ {A = ℕ} 0 1 = cc in absurd (omega arith);
+            refuses = λ d h. let g = sym (ap said h) ∙ f in let z : ◌≡◌ {A = ℕ} 0 1 = cc in absurd (omega arith);
             zeroes = J.work ∙ ap (λ (c : JudgeCall). c.work) e;
           }
       go (refused n m) q e =
           let f = J.says ∙ ap (λ (c : JudgeCall). c.says) e in
           record {
-            accepts = λ n h. let z : ◌≡◌ {A = ℕ} 0 1 = cc in absurd (omega arith);
-            refuses = λ k p h. let x : n ≡ k = cc in let y : m ≡ p = cc in q ∙ ap₂ refused x y;
+            accepts = λ k h. let g = sym (ap said h) ∙ f in let z : ◌≡◌ {A = ℕ} 0 1 = cc in absurd (omega arith);
+            refuses = λ d h. let g = sym (ap said h) ∙ f in let x : n ≡ number d = cc in let y : m ≡ place d = cc in q ∙ ap₂ refused x y;
             zeroes = J.work ∙ ap (λ (c : JudgeCall). c.work) e;
           }
 
@@ -121,31 +119,24 @@ module _ (card : Card) (s w : List ℕ) where
   same_work (ok S) = refl
   same_work (refused n p) = refl
 
-module _ (image s t w : List ℕ) {size : ℕ} (l : size ≤ length s) (a : 256 ≤ length t) (b : 40960 ≤ length w) {v : Verdict} {t' w' : List ℕ}
-    (J : Judges image t w v t' w') where
-  call_long : {slot : ℕ} (card : Card) → Numbers size slot card → {o : Out State} → judged card image ≡ o → judged_call card image s w ≡ after_judged card s w o
-  call_long card N q =
-      call_is image s w card false (ap₂ (λ (x y : Bool). x || y) (le-ltb (length s) (total card) (omega (arith, N.state))) (le-ltb (length w) 40960 b))
+module _ (card : Card) (image s t w : List ℕ) (l : total card ≤ length s) (a : 256 ≤ length t) (b : 40960 ≤ length w) where
+  call_long : {o : Out State} → judged card image ≡ o → judged_call card image s w ≡ after_judged card s w o
+  call_long q =
+      call_is image s w card false (ap₂ (λ (x y : Bool). x || y) (le-ltb (length s) (total card) l) (le-ltb (length w) 40960 b))
       ∙ ap (after_judged card s w) q
 
-  judge : Judged image w v w'
-  judge = judged_by image t w a b J
-
-  pub judge_refused : {slot k p : ℕ} → v ≡ verdicts.Refused k p → JudgedEach size slot image s w (Refused k p) s w'
+  pub judge_refused : {t' w' : List ℕ} (e : Refusal) → Judges image t w (Err e) t' w' → JudgedOn card image s w (Err e) s w'
   unfolding after_raw
-  judge_refused {k = k} {p = p} e = record {
-    each = λ card N.
-        let q = by_verdict card image (refused k p) (judge.refuses k p e) in
-        stands image s w card (call_long card N q) (same_says card s w (refused k p)) (same_state card s w (refused k p))
-        (judge.zeroes ∙ same_work card s w (refused k p));
-  }
+  judge_refused e J =
+      let j = judged_by image t w a b J in
+      let o : Out State = refused (number e) (place e) in
+      stands image s w card (call_long (by_verdict card image (refused (number e) (place e)) (j.refuses e refl))) (same_says card s w o) (same_state card s w o)
+      (j.zeroes ∙ same_work card s w o)
 
-  pub judge_accepted : {slot n : ℕ} {r : Loaded} {s' : List ℕ} → v ≡ verdicts.Accepted n → Loads size slot image s r s' → JudgedEach size slot image s w r s' w'
-  judge_accepted {n = n} e L = record {
-    each = λ card N.
-        let x = judge.accepts n e in
-        let q = by_verdict card image (ok x.0) x.1 in
-        let h = L.loads card N l in
-        let o = raw card image in
-        stands image s w card (call_long card N q) (h.says ∙ same_says card s w o) (h.state ∙ same_state card s w o) (judge.zeroes ∙ same_work card s w o);
-  }
+  pub judge_accepted : {n : ℕ} {r : Answer} {s' t' w' : List ℕ} → Judges image t w (Ok n) t' w' → Loads card image s r s' → JudgedOn card image s w r s' w'
+  judge_accepted {n = n} J L =
+      let j = judged_by image t w a b J in
+      let x = j.accepts n refl in
+      let h = L.loads l in
+      let o = raw card image in
+      stands image s w card (call_long (by_verdict card image (ok x.0) x.1)) (h.says ∙ same_says card s w o) (h.state ∙ same_state card s w o) (j.zeroes ∙ same_work card s w o)

@@ -1,12 +1,16 @@
 -- The walk: where it begins, one turn of it, and its end. Assumes nothing.
 use mathlib.Core.Path.{◌≡◌, refl, sym, ap, ◌∙◌}
 use mathlib.Core.List.{List, [], ◌∷◌, ◌++◌, append_assoc, append-nil}
-use Prim.Native.Nat.{ℕ, suc, ◌+◌, ◌<◌, ◌≤◌}
+use Prim.Native.Nat.{ℕ, ◌+◌, ◌-◌, ◌<◌, ◌≤◌}
 use native.Mathlib.Omega.{arith}
-use native.Mathlib.Nat.{add-zero}
-use native.Mathlib.Numerals.{add-one}
-use lib.ListN.{length, take, drop, get_or, set, length-append, length-drop, length-set, drop_of_length-le}
-use lib.Seq.{take_at, take-suc, take-suc-set, get_or-drop, drop-length}
+use lib.ListN.{length, take, drop, length-append, length-drop, drop_of_length-le}
+use lib.Seq.{take_at, drop-length, length-take-le}
+use borrow.Rule.Slice.PartMut.{mid_of, put_mid, same_len_mid}
+use Rattle.std.proofs.lemmas.Slice.{take-put_mid}
+use Rattle.std.specs.Prelude.{Result, Ok, Err, IsOk}
+use Rattle.codes.specs.declared.ExpCode.{ExpCode}
+use Rattle.codes.specs.declared.NoSuchCode.{NoSuchCode}
+use Rattle.codes.specs.Codes.{exp_byte, exp_byte_one, exp_byte_due, ExpDecodes}
 use Rattle.paper.specs.Base.{All, all_nil, all_cons, Bytes, at}
 use Rattle.paper.specs.Expressions.{Exp, exp_bytes}
 use Rattle.paper.specs.Reading.{got, read_image}
@@ -14,26 +18,22 @@ use Rattle.paper.specs.Terms.{erase, term_bytes}
 use Rattle.laws.specs.Shown.{cons_at}
 use Rattle.laws.specs.Images.{image_at}
 use Rattle.loads.specs.Split.{code_of, passed, parts, own, exps, terms, exp_split, term_split}
-use Rattle.loads.specs.Steps.{Stays, PartsAt, Copied}
+use Rattle.loads.specs.Steps.{kept, PartsAt, Copied}
 use Rattle.loads.specs.Walk.{Due, Erasing, Walks, Erasable, Erased}
 use Rattle.loads.proofs.erasing.Parts.{parts_due, own_length, after, next_place}
 
--- ---- a copy, byte by byte
+-- ---- a copy
 
-pub copied_none : (s : List ℕ) (from : ℕ) (w : List ℕ) (to : ℕ) → Copied s from 0 w w to
-copied_none s from w to = record { kept = refl; bytes = ap (λ (k : ℕ). take k w) (add-zero to) ∙ sym (append-nil (take to w)) }
-
-pub copied_more : {s : List ℕ} {from i : ℕ} {w v : List ℕ} {to : ℕ} → Copied s from i w v to → from + i < length s → to + i < length w → (b : ℕ) → b ≡ at s (from + i)
-    → Copied s from (i + 1) w (set v (to + i) b) to
-copied_more {s} {from} {i} {w} {v} {to} c h l b e =
-    let x = drop from s in
-    let g : get_or x i 0 ≡ b = get_or-drop from s i 0 ∙ sym e in
-    let one : take (i + 1) x ≡ take i x ++ (b ∷ []) = rw (add-one i) (take-suc x i 0 (omega (arith, length-drop from s)) ∙ ap (λ (y : ℕ). take i x ++ (y ∷ [])) g) in
-    let z : to + (i + 1) ≡ suc (to + i) = omega arith in
+pub copied : (s : List ℕ) (i k n : ℕ) (w y : List ℕ) → i + k ≤ length s → n + k ≤ length w → y ≡ mid_of i (i + k - i) s → Copied s i k w (put_mid n (n + k - n) w y) n
+copied s i k n w y h l e =
+    let from : i + k - i ≡ k = omega arith in
+    let to : n + k - n ≡ k = omega arith in
+    let f : y ≡ take k (drop i s) = e ∙ ap (λ (m : ℕ). take m (drop i s)) from in
+    let g : length y ≡ k = ap length f ∙ length-take-le k (drop i s) (omega (arith, length-drop i s)) in
+    let m : length (mid_of n (n + k - n) w) ≡ k = ap (λ (m : ℕ). length (take m (drop n w))) to ∙ length-take-le k (drop n w) (omega (arith, length-drop n w)) in
     record {
-      kept = length-set v (to + i) b ∙ c.kept;
-      bytes = ap (λ (k : ℕ). take k (set v (to + i) b)) z ∙ take-suc-set v (to + i) b (omega (arith, c.kept)) ∙ ap (◌++ (b ∷ [])) c.bytes
-          ∙ append_assoc (take to w) (take i x) (b ∷ []) ∙ ap (take to w ++◌) (sym one);
+      kept = same_len_mid n (n + k - n) w y (g ∙ sym m);
+      bytes = take-put_mid n (n + k - n) w y (n + k) (omega arith) (omega arith) ∙ ap (take n w ++◌) f;
     }
 
 -- ---- the walk
@@ -61,7 +61,7 @@ module _ (s : List ℕ) where
     pub left : drop i s ≡ own x ++ (passed x ++ exps (parts x r))
     pub done : take n w ++ (own x ++ terms (parts x r)) ≡ term_bytes (erase e)
     pub shorter : n ≤ i
-    pub code : at s i ≡ code_of x
+    pub code : at s i ≡ exp_byte (code_of x)
 
   module _ (e : Exp) (w : List ℕ) (n i : ℕ) where
     turn : i < length s → Erasing s e w n i → Turn e w n i
@@ -83,9 +83,12 @@ module _ (s : List ℕ) where
               code = cc;
             }
 
-    module _ (T : Turn e w n i) (k : ℕ) (S : Stays (at s i) k) where
+    module _ (T : Turn e w n i) (c : ExpCode) (C : exp_byte c ≡ at s i) (k : ℕ) (S : k ≡ kept c) where
+      code : c ≡ code_of T.x
+      code = exp_byte_one c (code_of T.x) (C ∙ T.code)
+
       stays_own : length (own T.x) ≡ k
-      stays_own = own_length T.x (rw T.code at S)
+      stays_own = own_length T.x ∙ ap kept (sym code) ∙ sym S
 
       turn_room : (i + k ≤ length s) × (1 ≤ k)
       turn_room =
@@ -94,9 +97,9 @@ module _ (s : List ℕ) where
           let b = passed T.x ++ exps (parts T.x T.r) in
           (omega (arith, length-drop i s, ap length T.left, length-append a b), omega arith)
 
-      module _ (w' : List ℕ) (q : ℕ) (C : Copied s i k w w' n) (P : PartsAt s i (at s i) q) where
+      module _ (w' : List ℕ) (q : ℕ) (D : Copied s i k w w' n) (P : PartsAt s i c q) where
         place : q ≡ i + length (own T.x) + length (passed T.x)
-        place = next_place s i T.x T.r T.ready T.left (rw T.code at P)
+        place = next_place s i T.x T.r T.ready T.left (rw code at P)
 
         turn_forward : i + k ≤ q
         turn_forward = omega (arith, place, stays_own)
@@ -110,7 +113,7 @@ module _ (s : List ℕ) where
               due = parts x T.r;
               ready = parts_due x T.ready T.rest;
               left = ap (λ (m : ℕ). drop m s) place ∙ after s (i + length (own x)) (passed x) b (after s i (own x) (passed x ++ b) T.left);
-              done = ap (◌++ d) (C.bytes ∙ ap (take n w ++◌) (ap (take k) T.left ∙ take_at (own x) (passed x ++ b) k stays_own))
+              done = ap (◌++ d) (D.bytes ∙ ap (take n w ++◌) (ap (take k) T.left ∙ take_at (own x) (passed x ++ b) k stays_own))
                   ∙ append_assoc (take n w) (own x) d ∙ T.done;
               shorter = omega (arith, T.shorter, turn_forward);
               inside = omega (arith, place, length-drop i s, ap length T.left, length-append (own x) (passed x ++ b), length-append (passed x) b, turn_room);
@@ -139,24 +142,41 @@ module _ {s w₀ w : List ℕ} {n i : ℕ} (W : Walks s w₀ w n i) where
         bytes = λ e j q. end s e w n i h (W.erasing e j q);
       }
 
-  module _ (h : i < length s) {k : ℕ} (S : Stays (at s i) k) where
+  module _ (h : i < length s) where
     here : (e : Exp) (j : ℕ) → read_image s ≡ got e j → Turn s e w n i
     here e j q = turn s e w n i h (W.erasing e j q)
 
-    module _ (E : Erasable s w₀) where
+    -- a code stands there
+    pub walks_coded : Erasable s w₀ → (r : Result ExpCode NoSuchCode) → ExpDecodes (at s i) r → IsOk r
+    walks_coded E r d = decoded (code_of t.x) r (rw t.code at d)
+      where
+        t : Turn s E.source w n i
+        t = here E.source E.end E.was_read
+
+        decoded : (c : ExpCode) (r : Result ExpCode NoSuchCode) → ExpDecodes (exp_byte c) r → IsOk r
+        decoded c (Ok x) d = refl
+        decoded c (Err e) d = absurd (exp_byte_due c d)
+
+    module _ {r : Result ExpCode NoSuchCode} (D : ExpDecodes (at s i) r) {c : ExpCode} (R : r ≡ Ok c) {k : ℕ} (S : k ≡ kept c) (E : Erasable s w₀) where
+      here_byte : exp_byte c ≡ at s i
+      here_byte = rw R at D
+
       it : Turn s E.source w n i
       it = here E.source E.end E.was_read
 
       pub walks_room : (i + k ≤ length s) × (n + k ≤ length w) × (i < 4096)
       walks_room =
-          let z = turn_room s E.source w n i it k S in
+          let z = turn_room s E.source w n i it c here_byte k S in
           let m = (image_at s E.was_read).most in
           (z.0, omega (arith, it.shorter, E.room, W.kept), omega arith)
 
-      pub walks_less : {w' : List ℕ} {q : ℕ} → Copied s i k w w' n → PartsAt s i (at s i) q → i < q
-      walks_less {w'} {q} C P =
-          omega (arith, turn_forward s E.source w n i it k S w' q C P, turn_room s E.source w n i it k S)
+      module _ {y : List ℕ} (e : y ≡ mid_of i (i + k - i) s) where
+        copy : Copied s i k w (put_mid n (n + k - n) w y) n
+        copy = copied s i k n w y walks_room.0 walks_room.1 e
 
-    pub walks_again : {w' : List ℕ} {q : ℕ} → Copied s i k w w' n → PartsAt s i (at s i) q → Walks s w₀ w' (n + k) q
-    walks_again {w'} {q} C P =
-        record { kept = C.kept ∙ W.kept; erasing = λ e j r. again s e w n i (here e j r) k S w' q C P }
+        pub walks_less : {q : ℕ} → PartsAt s i c q → i < q
+        walks_less {q} P = omega (arith, turn_forward s E.source w n i it c here_byte k S (put_mid n (n + k - n) w y) q copy P, turn_room s E.source w n i it c here_byte k S)
+
+        pub walks_again : {q : ℕ} → PartsAt s i c q → Walks s w₀ (put_mid n (n + k - n) w y) (n + k) q
+        walks_again {q} P =
+            record { kept = copy.kept ∙ W.kept; erasing = λ f j r. again s f w n i (here f j r) c here_byte k S (put_mid n (n + k - n) w y) q copy P }

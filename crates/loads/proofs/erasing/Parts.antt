@@ -10,11 +10,13 @@ use lib.Pow.{pow_mono}
 use Rattle.paper.specs.Base.{All, all_cons, bytes4}
 use Rattle.paper.specs.Types.{Ty, ty_bytes}
 use Rattle.paper.specs.Expressions.{Exp}
+use Rattle.codes.specs.declared.ExpCode.{ExpCode}
+use Rattle.codes.specs.declared.ExpCode.TheVariants as codes
 use Rattle.laws.specs.Scope.{TyIn, ExpIn}
 use Rattle.laws.specs.TypesRead.{Stated, bytes_length}
 use Rattle.laws.specs.ExpsRead.{StatedIn}
 use Rattle.loads.specs.Split.{code_of, passed, parts, own, exps}
-use Rattle.loads.specs.Steps.{Stays, TypeHere, PartsAt}
+use Rattle.loads.specs.Steps.{kept, TypeHere, PartsAt}
 use Rattle.loads.specs.Walk.{Due}
 
 due : {x : Exp} (n v : ℕ) → n ≤ 32 → ExpIn n v x → StatedIn x → Due x
@@ -44,23 +46,59 @@ parts_due (Exp.cond t a b e) d r =
 
 -- ---- as many bytes stay as the code says
 
-pub own_length : (x : Exp) {k : ℕ} → Stays (code_of x) k → length (own x) ≡ k
+pub own_length : (x : Exp) → length (own x) ≡ kept (code_of x)
 unfolding bytes4
-own_length Exp.unit h = sym (h.other (omega arith) (omega arith))
-own_length (Exp.num n) h = sym (h.number refl)
-own_length (Exp.var n) h = sym (h.variable refl)
-own_length (Exp.fun t p e) h = sym (h.other (omega arith) (omega arith))
-own_length (Exp.app a b) h = sym (h.other (omega arith) (omega arith))
-own_length (Exp.cell m t e) h = sym (h.other (omega arith) (omega arith))
-own_length (Exp.read e) h = sym (h.other (omega arith) (omega arith))
-own_length (Exp.write a b) h = sym (h.other (omega arith) (omega arith))
-own_length (Exp.fork e) h = sym (h.other (omega arith) (omega arith))
-own_length (Exp.newlock e) h = sym (h.other (omega arith) (omega arith))
-own_length (Exp.sync a b) h = sym (h.other (omega arith) (omega arith))
-own_length (Exp.bind a b) h = sym (h.other (omega arith) (omega arith))
-own_length (Exp.seq a b) h = sym (h.other (omega arith) (omega arith))
-own_length (Exp.add a b) h = sym (h.other (omega arith) (omega arith))
-own_length (Exp.cond t a b e) h = sym (h.other (omega arith) (omega arith))
+own_length Exp.unit = refl
+own_length (Exp.num k) = refl
+own_length (Exp.var k) = refl
+own_length (Exp.fun t p e) = refl
+own_length (Exp.app a b) = refl
+own_length (Exp.cell m t e) = refl
+own_length (Exp.read e) = refl
+own_length (Exp.write a b) = refl
+own_length (Exp.fork e) = refl
+own_length (Exp.newlock e) = refl
+own_length (Exp.sync a b) = refl
+own_length (Exp.bind a b) = refl
+own_length (Exp.seq a b) = refl
+own_length (Exp.add a b) = refl
+own_length (Exp.cond t a b e) = refl
+
+-- a code with no field that stays
+pub kept_code : (c : ExpCode) → c ≢ codes.Number → c ≢ codes.Variable → kept c ≡ 1
+kept_code codes.Unit m v = refl
+kept_code codes.Number m v = absurd (m refl)
+kept_code codes.Variable m v = absurd (v refl)
+kept_code codes.Function m v = refl
+kept_code codes.Apply m v = refl
+kept_code codes.NewCell m v = refl
+kept_code codes.Read m v = refl
+kept_code codes.Write m v = refl
+kept_code codes.Fork m v = refl
+kept_code codes.NewLock m v = refl
+kept_code codes.Section m v = refl
+kept_code codes.Let m v = refl
+kept_code codes.Then m v = refl
+kept_code codes.Add m v = refl
+kept_code codes.If m v = refl
+
+-- a code with no fields
+pub no_fields : (s : List ℕ) (i : ℕ) (c : ExpCode) → c ≢ codes.Number → c ≢ codes.Variable → c ≢ codes.Function → c ≢ codes.NewCell → c ≢ codes.If → PartsAt s i c (i + 1)
+no_fields s i codes.Unit m v f n d = refl
+no_fields s i codes.Number m v f n d = absurd (m refl)
+no_fields s i codes.Variable m v f n d = absurd (v refl)
+no_fields s i codes.Function m v f n d = absurd (f refl)
+no_fields s i codes.Apply m v f n d = refl
+no_fields s i codes.NewCell m v f n d = absurd (n refl)
+no_fields s i codes.Read m v f n d = refl
+no_fields s i codes.Write m v f n d = refl
+no_fields s i codes.Fork m v f n d = refl
+no_fields s i codes.NewLock m v f n d = refl
+no_fields s i codes.Section m v f n d = refl
+no_fields s i codes.Let m v f n d = refl
+no_fields s i codes.Then m v f n d = refl
+no_fields s i codes.Add m v f n d = refl
+no_fields s i codes.If m v f n d = absurd (d refl)
 
 -- ---- the parts begin where the code says
 
@@ -79,30 +117,27 @@ module _ (s : List ℕ) (i : ℕ) where
   stands : (t : Ty) (a b : List ℕ) (n : ℕ) → n ≤ 32 → TyIn n t → Stated t → drop i s ≡ a ++ (ty_bytes t ++ b) → TypeHere s (i + length a) t
   stands t a b n l h k e = record { rest = b; bytes = after s i a (ty_bytes t ++ b) e; scope = names_more n t l h; stated = k }
 
-  none : {c q : ℕ} → PartsAt s i c q → c ≢ 0x02 → c ≢ 0x03 → c ≢ 0x04 → c ≢ 0x06 → c ≢ 0x0F → q ≡ i + 1 + 0
-  none h a b c d e = omega (arith, h.other a b c d e)
-
   pub next_place : (x : Exp) (r : List Exp) {q : ℕ} → Due x → drop i s ≡ own x ++ (passed x ++ exps (parts x r)) → PartsAt s i (code_of x) q
       → q ≡ i + length (own x) + length (passed x)
   unfolding bytes4
-  next_place Exp.unit r d e h = none h (omega arith) (omega arith) (omega arith) (omega arith) (omega arith)
-  next_place (Exp.num k) r d e h = omega (arith, h.number refl)
-  next_place (Exp.var k) r d e h = omega (arith, h.variable refl)
+  next_place Exp.unit r d e h = omega (arith, h)
+  next_place (Exp.num k) r d e h = omega (arith, h)
+  next_place (Exp.var k) r d e h = omega (arith, h)
   next_place (Exp.fun t p x) r d e h =
       let z = stands t (0x04 ∷ []) (bytes4 p ++ exps (x ∷ r)) d.locks d.few d.scope.0 d.stated.0 (e ∙ ap (0x04 ∷◌) (append_assoc (ty_bytes t) (bytes4 p) (exps (x ∷ r)))) in
-      omega (arith, h.function refl t z, length-append (ty_bytes t) (bytes4 p), bytes_length t)
-  next_place (Exp.app a b) r d e h = none h (omega arith) (omega arith) (omega arith) (omega arith) (omega arith)
+      omega (arith, h t z, length-append (ty_bytes t) (bytes4 p), bytes_length t)
+  next_place (Exp.app a b) r d e h = omega (arith, h)
   next_place (Exp.cell m t x) r d e h =
       let z = stands t (0x06 ∷ m ∷ []) (exps (x ∷ r)) d.locks d.few d.scope.1 d.stated.0 e in
-      omega (arith, h.cell refl t z, bytes_length t)
-  next_place (Exp.read x) r d e h = none h (omega arith) (omega arith) (omega arith) (omega arith) (omega arith)
-  next_place (Exp.write a b) r d e h = none h (omega arith) (omega arith) (omega arith) (omega arith) (omega arith)
-  next_place (Exp.fork x) r d e h = none h (omega arith) (omega arith) (omega arith) (omega arith) (omega arith)
-  next_place (Exp.newlock x) r d e h = none h (omega arith) (omega arith) (omega arith) (omega arith) (omega arith)
-  next_place (Exp.sync a b) r d e h = none h (omega arith) (omega arith) (omega arith) (omega arith) (omega arith)
-  next_place (Exp.bind a b) r d e h = none h (omega arith) (omega arith) (omega arith) (omega arith) (omega arith)
-  next_place (Exp.seq a b) r d e h = none h (omega arith) (omega arith) (omega arith) (omega arith) (omega arith)
-  next_place (Exp.add a b) r d e h = none h (omega arith) (omega arith) (omega arith) (omega arith) (omega arith)
+      omega (arith, h t z, bytes_length t)
+  next_place (Exp.read x) r d e h = omega (arith, h)
+  next_place (Exp.write a b) r d e h = omega (arith, h)
+  next_place (Exp.fork x) r d e h = omega (arith, h)
+  next_place (Exp.newlock x) r d e h = omega (arith, h)
+  next_place (Exp.sync a b) r d e h = omega (arith, h)
+  next_place (Exp.bind a b) r d e h = omega (arith, h)
+  next_place (Exp.seq a b) r d e h = omega (arith, h)
+  next_place (Exp.add a b) r d e h = omega (arith, h)
   next_place (Exp.cond t a b x) r d e h =
       let z = stands t (0x0F ∷ []) (exps (a ∷ b ∷ x ∷ r)) d.locks d.few d.scope.0 d.stated.0 e in
-      omega (arith, h.cond refl t z, bytes_length t)
+      omega (arith, h t z, bytes_length t)

@@ -1,8 +1,9 @@
 -- The judge's answer, on buffers that are long enough, and its line: the type's bytes stand first in the type buffer, or the answer is the
 -- refusal itself.
-use mathlib.Core.Path.{◌≡◌, refl, sym, ap, ◌∙◌}
+use mathlib.Core.Path.{◌≡◌, refl, ap, ◌∙◌}
 use mathlib.Core.List.{List}
 use Prim.Native.Nat.{ℕ, ◌≤◌}
+use Rattle.std.specs.Prelude.{Result, Ok, Err}
 use native.Mathlib.Omega.{arith}
 use lib.ListN.{length, take, drop}
 use lib.Seq.{take_at}
@@ -14,11 +15,10 @@ use Rattle.paper.specs.Texts.{judge_text}
 use Rattle.laws.specs.TypesRead.{bytes_length}
 use Rattle.laws.specs.CallLaws.{laid_length}
 use Rattle.laws.specs.Sizes.{verdict_small}
-use Rattle.judging.specs.Entry.{said, Judges}
-use Rattle.judging.specs.declared.entry.Verdict.{Verdict}
-use Rattle.judging.specs.declared.entry.Verdict.TheVariants.{Accepted, Refused}
+use Rattle.answers.specs.declared.Refusal.{Refusal}
+use Rattle.answers.specs.Numbers.{number, place}
+use Rattle.judging.specs.Entry.{Judges}
 use Rattle.writing.specs.Written.{Written as Filled}
-use Rattle.texts.specs.declared.entry.Text.TheVariants.{Written}
 use Rattle.texts.specs.Lines.{accept_line, refuse_line, accept_line_lem, refuse_line_lem}
 use Rattle.texts.specs.JudgeText.{JudgeTexts, text_written}
 
@@ -59,15 +59,15 @@ module _ (image types work types' : List ℕ) (type_room : 256 ≤ length types)
       let y : i ≡ p = cc in
       rw (q, refuse_line_lem k i, z, y)
 
-module _ {image types work types' work' : List ℕ} {r : Verdict} (j : Judges image types work r types' work') (type_room : 256 ≤ length types) (work_room : 40960 ≤ length work) where
-  pub accepts : (n : ℕ) → r ≡ Accepted n → Accepts image types' n
-  accepts n e = accepts_by image types work types' type_room work_room n (ap said (sym e) ∙ j.says) j.types (verdict image) refl
+module _ {image types work types' work' : List ℕ} (type_room : 256 ≤ length types) (work_room : 40960 ≤ length work) where
+  pub accepts : {n : ℕ} → Judges image types work (Ok n) types' work' → Accepts image types' n
+  accepts {n} j = accepts_by image types work types' type_room work_room n j.says j.types (verdict image) refl
 
-  pub refuses : (n p : ℕ) → r ≡ Refused n p → judge_text image ≡ refuse_line n p
-  refuses n p e = refuses_by image types work types' type_room work_room n p (ap said (sym e) ∙ j.says) (verdict image) refl
+  refuses : (e : Refusal) → Judges image types work (Err e) types' work' → judge_text image ≡ refuse_line (number e) (place e)
+  refuses e j = refuses_by image types work types' type_room work_room (number e) (place e) j.says (verdict image) refl
 
-  clears : work' ≡ zeroed work
-  clears = j.work ∙ by (verdict image) refl
+  clears : {r : Result ℕ Refusal} → Judges image types work r types' work' → work' ≡ zeroed work
+  clears j = j.work ∙ by (verdict image) refl
     where
       by : (o : Out Ty) → verdict image ≡ o → (judge_call image types work).work ≡ zeroed work
       by (ok t) q = let c = call_ok image types work types' type_room work_room t q in cc
@@ -76,11 +76,13 @@ module _ {image types work types' work' : List ℕ} {r : Verdict} (j : Judges im
   -- ---- the line of each answer
 
   module _ {out out' : List ℕ} {end : ℕ} (out_room : 520 ≤ length out) where
-    by_line : {b : List ℕ} → judge_text image ≡ b → Filled b out out' end → JudgeTexts image work out (Written end) work' out'
-    by_line e w = text_written image work out work_room out_room clears (rw e w)
+    by_line : {r : Result ℕ Refusal} {b : List ℕ} → Judges image types work r types' work' → judge_text image ≡ b → Filled b out out' end
+        → JudgeTexts image work out (Ok end) work' out'
+    by_line j e w = text_written image work out work_room out_room (clears j) (rw e w)
 
-    pub accepted : {n : ℕ} → r ≡ Accepted n → Filled (accept_line (take n types')) out out' end → JudgeTexts image work out (Written end) work' out'
-    accepted {n} e w = by_line (accepts n e).line w
+    pub accepted : {n : ℕ} → Judges image types work (Ok n) types' work' → Filled (accept_line (take n types')) out out' end → JudgeTexts image work out (Ok end) work' out'
+    accepted j w = by_line j (accepts j).line w
 
-    pub denied : {n p : ℕ} → r ≡ Refused n p → Filled (refuse_line n p) out out' end → JudgeTexts image work out (Written end) work' out'
-    denied {n} {p} e w = by_line (refuses n p e) w
+    pub denied : (e : Refusal) → Judges image types work (Err e) types' work' → Filled (refuse_line (number e) (place e)) out out' end
+        → JudgeTexts image work out (Ok end) work' out'
+    denied e j w = by_line j (refuses e j) w

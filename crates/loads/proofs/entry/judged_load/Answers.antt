@@ -1,7 +1,8 @@
--- The card of document 01 has these numbers.
+-- The card of document 01 fits.
 use Rattle.paper.specs.States.{sixteen}
-use Rattle.loads.proofs.entry.Laws.{sixteen_numbers}
+use Rattle.laws.specs.Cards.{sixteen_fits}
 use Rattle.loads.proofs.entry.judged_load.Goals as goal
 
-pub returns : goal.returns
-returns c = c.judged_on.ensures.each sixteen sixteen_numbers
+pub invariant_of-judged_on : goal.invariant_of-judged_on
+unfolding sixteen
+invariant_of-judged_on c = record { fits = sixteen_fits }

@@ -1,7 +1,8 @@
--- The card of document 01 has these numbers.
+-- The card of document 01 fits.
 use Rattle.paper.specs.States.{sixteen}
-use Rattle.loads.proofs.entry.Laws.{sixteen_numbers}
+use Rattle.laws.specs.Cards.{sixteen_fits}
 use Rattle.loads.proofs.entry.raw_load.Goals as goal
 
-pub returns : goal.returns
-returns c = c.raw_on.ensures.each sixteen sixteen_numbers
+pub invariant_of-raw_on : goal.invariant_of-raw_on
+unfolding sixteen
+invariant_of-raw_on c = record { fits = sixteen_fits }
