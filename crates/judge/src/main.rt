@@ -3,15 +3,15 @@
 #![tactic(auto)]
 
 use std::io;
-use texts::entry::Text;
+use texts::entry::judge_text;
 
 fn main(rt: HostRuntime) -> io::Result<()> {
     let mut image = [0u8; 4097];
     let n = intake::fill(&mut rt.stdin(), &mut image)?;
     let mut work = [0u8; 40960];
     let mut line = [0u8; 520];
-    match texts::entry::judge_text(&image[..n], &mut work, &mut line) {
-        Text::Written(end) => rt.write_all(&line[..end]),
-        Text::ShortBuffer => Ok(()),
+    match judge_text(&image[..n], &mut work, &mut line) {
+        Ok(end) => rt.write_all(&line[..end]),
+        Err(_) => Ok(()),
     }
 }

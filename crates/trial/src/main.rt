@@ -3,7 +3,7 @@
 #![tactic(auto)]
 
 use std::io;
-use texts::entry::Text;
+use trial_texts::trial::trial_text;
 
 fn main(rt: HostRuntime) -> io::Result<()> {
     let mut input = [0u8; 12288];
@@ -11,8 +11,8 @@ fn main(rt: HostRuntime) -> io::Result<()> {
     let mut state = [0u8; 49408];
     let mut work = [0u8; 40960];
     let mut text = [0u8; 74262];
-    match trial_texts::trial::trial_text(&input[..n], &mut state, &mut work, &mut text) {
-        Text::Written(end) => rt.write_all(&text[..end]),
-        Text::ShortBuffer => Ok(()),
+    match trial_text(&input[..n], &mut state, &mut work, &mut text) {
+        Ok(end) => rt.write_all(&text[..end]),
+        Err(_) => Ok(()),
     }
 }

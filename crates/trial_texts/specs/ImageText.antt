@@ -1,17 +1,16 @@
 -- The judge's line for an image, and what is printed behind it: together the text of an image and a schedule.
 use Rattle.std.proofs.Common.{sym, subst, inl, inr, arith}
-use Rattle.std.specs.Prelude.{◌⊎◌, List, ℕ, ◌<◌, ◌≤◌, length}
+use Rattle.std.specs.Prelude.{◌⊎◌, List, ℕ, ◌<◌, ◌≤◌, length, Err}
 use Rattle.paper.specs.Texts.{judge_text}
 use Rattle.texts.specs.Lines.{line_length}
-use Rattle.texts.specs.JudgeText.{Lined, Unlined}
-use Rattle.texts.specs.declared.entry.Text.TheVariants.{ShortBuffer}
+use Rattle.texts.specs.JudgeText.{short, Lined, Unlined}
 use Rattle.trial_texts.specs.Put.{Put, put_length, put_then, laid_put}
 use Rattle.trial_texts.specs.TrialText.{Lent, TrialPrints, TrialTexts, short_work, trial_short}
 use Rattle.trial_texts.specs.Early.{trial_is}
 use Rattle.trial_texts.specs.LoadText.{LoadReady, LoadPrints}
 
 -- no line: it is the judge's work that there is no room for
-pub unjudged : {input s w o w' o' : List ℕ} → 74262 ≤ length o → Unlined w o w' o' → TrialTexts input s w o ShortBuffer s w' o'
+pub unjudged : {input s w o w' o' : List ℕ} → 74262 ≤ length o → Unlined w o w' o' → TrialTexts input s w o (Err short) s w' o'
 unjudged {input} {s} {w} {o} h u =
     let t = trial_short input s w o (short_work (by u.why)) in
     rw (u.same_work, u.same_out) t

@@ -1,5 +1,5 @@
 -- What the trial prints of an image behind the judge's line: the steps of the run, why it was not loaded, or nothing.
-use Rattle.std.specs.Prelude.{◌≡◌, true, List, [], ◌∷◌, ◌++◌, ℕ, ◌+◌, ◌*◌, ◌<◌, ◌≤◌, length, take}
+use Rattle.std.specs.Prelude.{◌≡◌, true, List, [], ◌∷◌, ◌++◌, ℕ, ◌+◌, ◌*◌, ◌<◌, ◌≤◌, length, take, Ok, Err}
 use Rattle.std.proofs.Math.Path.{refl, ap, ap₂}
 use Rattle.std.proofs.Common.{sym, ◌∙◌, subst, append_assoc, arith, length-append, le-ltb}
 use Rattle.paper.specs.Verdict.{Out, ok, refused}
@@ -10,9 +10,9 @@ use Rattle.paper.specs.Texts.{decimal, schedule_text, default_text, run_text, lo
 use Rattle.laws.specs.Cards.{sixteen_fits}
 use Rattle.laws.specs.LoadLaws.{no_ok, raw_done}
 use Rattle.laws.specs.RunLaws.{laid_buffer}
-use Rattle.loads.specs.declared.entry.Loaded.{Loaded}
-use Rattle.loads.specs.declared.entry.Loaded.TheVariants.{Done, Refused}
-use Rattle.loads.specs.Contract.{RawLoads}
+use Rattle.answers.specs.declared.Refusal.{Refusal}
+use Rattle.answers.specs.Numbers.{number, place}
+use Rattle.loads.specs.Contract.{Answer, RawLoads}
 use Rattle.trial_texts.specs.Put.{Put, put_none, written_put}
 use Rattle.writing.specs.Written.{Written}
 use Rattle.writing.specs.Digits.{decimal_length}
@@ -73,8 +73,8 @@ pub record LoadPrints (image schedule s out : List ℕ) (at : ℕ) (s' out' : Li
   pub inside : end ≤ length out
   pub beyond : Beyond s s'
 
-pub load_as : {image s s' : List ℕ} {r q : Loaded} → RawLoads image s r s' → r ≡ q → RawLoads image s q s'
-load_as {image} {s} {s'} a e = subst (λ (x : Loaded). RawLoads image s x s') e a
+pub load_as : {image s s' : List ℕ} {r q : Answer} → RawLoads image s r s' → r ≡ q → RawLoads image s q s'
+load_as {image} {s} {s'} a e = subst (λ (x : Answer). RawLoads image s x s') e a
 
 -- the load succeeded, and the buffer holds what it loaded
 pub record Loads (image s s' : List ℕ) : Type 0 where
@@ -84,7 +84,7 @@ pub record Loads (image s s' : List ℕ) : Type 0 where
   pub beyond : Beyond s s'
 
 module _ {image s s' : List ℕ} (long : 49408 ≤ length s) (firsts : (S : State) → raw sixteen image ≡ ok S → good sixteen S ≡ true) where
-  pub loaded : RawLoads image s Done s' → Loads image s s'
+  pub loaded : RawLoads image s (Ok tt) s' → Loads image s s'
   loaded a =
       let d = raw_done sixteen image s (sym a.says) in
       let S = d.state in
@@ -125,15 +125,15 @@ module _ (image schedule : List ℕ) where
     }
 
     -- the load refused
-    not_loaded : {s' : List ℕ} {n p : ℕ} → RawLoads image s (Refused n p) s' → (raw sixteen image ≡ refused n p) × (s' ≡ s)
+    not_loaded : {s' : List ℕ} {e : Refusal} → RawLoads image s (Err e) s' → (raw sixteen image ≡ refused (number e) (place e)) × (s' ≡ s)
     unfolding raw_call total sixteen
-    not_loaded {s'} {n} {p} a =
+    not_loaded {s'} {e} a =
         let t : raw_call sixteen image s ≡ after_raw sixteen s (raw sixteen image) = rw (le-ltb (length s) 49408 w.for_state) in
-        by_load s s' n p (raw sixteen image) refl (a.says ∙ ap (λ (c : RawCall). c.says) t) (a.state ∙ ap (λ (c : RawCall). c.state) t)
+        by_load s s' (number e) (place e) (raw sixteen image) refl (a.says ∙ ap (λ (c : RawCall). c.says) t) (a.state ∙ ap (λ (c : RawCall). c.state) t)
 
     -- the reading refused: no more is printed
-    pub load_unread : {s' : List ℕ} {n p : ℕ} → RawLoads image s (Refused n p) s' → n < 10 → LoadPrints image schedule s out at s' out at
-    load_unread {s'} {n} {p} a h =
+    pub load_unread : {s' : List ℕ} {e : Refusal} → RawLoads image s (Err e) s' → number e < 10 → LoadPrints image schedule s out at s' out at
+    load_unread {s'} {e} a h =
         let r = not_loaded a in
         record {
           text = subst (λ (x : List ℕ). Put out out at x at) (sym (behind_unread image schedule (raw_refusal image r.0) h)) (put_none out at);
@@ -141,17 +141,17 @@ module _ (image schedule : List ℕ) where
           beyond = subst (Beyond s) (sym r.1) (beyond_same s);
         }
 
-    pub load_refused : {s' out' : List ℕ} {n p end : ℕ} → RawLoads image s (Refused n p) s' → 10 ≤ n → Written (take at out ++ load_line n) out out' end
+    pub load_refused : {s' out' : List ℕ} {e : Refusal} {end : ℕ} → RawLoads image s (Err e) s' → 10 ≤ number e → Written (take at out ++ load_line (number e)) out out' end
         → LoadPrints image schedule s out at s' out' end
-    load_refused {s'} {out'} {n} {p} {end} a h v =
+    load_refused {s'} {out'} {e} {end} a h v =
         let r = not_loaded a in
         let f = raw_refusal image r.0 in
         let m = refusal_most image f in
         let k = w.space in
-        let l : length (load_line n) ≤ 8 = omega (arith, decimal_length 1 n (omega arith), length-append (decimal n) (0x0A ∷ [])) in
-        let q : Put out out' at (load_line n) end = written_put (omega arith) v in
+        let l : length (load_line (number e)) ≤ 8 = omega (arith, decimal_length 1 (number e) (omega arith), length-append (decimal (number e)) (0x0A ∷ [])) in
+        let q : Put out out' at (load_line (number e)) end = written_put (omega arith) v in
         record {
-          text = subst (λ (x : List ℕ). Put out out' at x end) (sym (behind_long image schedule f h ∙ load_no n p r.0)) q;
-          inside = let e = q.end in omega arith;
+          text = subst (λ (x : List ℕ). Put out out' at x end) (sym (behind_long image schedule f h ∙ load_no (number e) (place e) r.0)) q;
+          inside = let z = q.end in omega arith;
           beyond = subst (Beyond s) (sym r.1) (beyond_same s);
         }

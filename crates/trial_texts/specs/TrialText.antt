@@ -1,6 +1,6 @@
 -- The trial's text for an input, as a call: its answer and the lent buffers after it, from the input and the buffers before it. A buffer that the
 -- state, the judge's work or the longest text does not fit in is refused whatever the input is, and all are left as they were.
-use Rattle.std.specs.Prelude.{◌≡◌, refl, Bool, true, false, ◌||◌, List, ◌++◌, ℕ, ◌+◌, ◌*◌, ◌<◌, ◌≤◌, ltb, length, take, drop, replicate}
+use Rattle.std.specs.Prelude.{◌≡◌, refl, Bool, true, false, ◌||◌, List, ◌++◌, ℕ, ◌+◌, ◌*◌, ◌<◌, ◌≤◌, ltb, length, take, drop, replicate, Ok, Err}
 use Rattle.std.proofs.Common.{sym, ap, ◌∙◌, arith}
 use borrow.Author.Tests.{lt-ltb, le-ltb, ltb-true, ltb-false}
 use Rattle.zeros.specs.First.{first_zero, first_rest}
@@ -10,11 +10,10 @@ use Rattle.paper.specs.Verdict.{Out, ok, refused}
 use Rattle.paper.specs.States.{sixteen, total}
 use Rattle.paper.specs.Calls.{laid, work_bytes, zeroed}
 use Rattle.paper.specs.Texts.{trial_text, trial}
-use Rattle.texts.specs.declared.entry.Text.{Text}
-use Rattle.texts.specs.declared.entry.Text.TheVariants.{Written, ShortBuffer}
+use Rattle.texts.specs.JudgeText as texts
 use Rattle.trial_texts.specs.Put.{Put, put_laid}
 use Rattle.trial_texts.specs.Bench.{Beyond}
-use Rattle.texts.specs.JudgeText.{said, same_answer, Shown, laid_shown}
+use Rattle.texts.specs.JudgeText.{Text, said, same_answer, Shown, laid_shown}
 
 pub record TrialCall : Type 0 where
   pub says : Out ℕ
@@ -88,7 +87,7 @@ module _ (input s w o : List ℕ) where
 
   -- ---- what the code leaves behind meets the statement
 
-  pub trial_short : Short s w o → TrialTexts input s w o ShortBuffer s w o
+  pub trial_short : Short s w o → TrialTexts input s w o (Err texts.short) s w o
   trial_short h = let c = call_short h in record { says = cc; state = cc; work = cc; out = cc }
 
 -- the text of an image and a schedule is written; the state's own bytes are some others
@@ -105,7 +104,7 @@ wiped_rest s s' e = first_rest 49408 s' s e
 
 module _ (input s w o : List ℕ) where
   pub trial_written : {image schedule s' s'' w' o' : List ℕ} {end : ℕ} → Lent s w o → TrialPrints image schedule s w o end s' w' o'
-      → trial_text input ≡ trial sixteen image schedule → s'' ≡ wiped s' → TrialTexts input s w o (Written end) s'' w' o'
+      → trial_text input ≡ trial sixteen image schedule → s'' ≡ wiped s' → TrialTexts input s w o (Ok end) s'' w' o'
   trial_written {image} {schedule} {s'} {s''} {w'} {o'} {end} b p e f =
       let c = call_long input s w o b in
       let x = ap length e in
@@ -131,7 +130,7 @@ trial_text_unique {r = r} {q = q} h k =
 
 -- ---- the bytes that were written are the input's text
 
-pub shown : {input s w o : List ℕ} {r : Text} {s' w' o' : List ℕ} {n : ℕ} → TrialTexts input s w o r s' w' o' → r ≡ Written n → Shown (trial_text input) n o'
+pub shown : {input s w o : List ℕ} {r : Text} {s' w' o' : List ℕ} {n : ℕ} → TrialTexts input s w o r s' w' o' → r ≡ Ok n → Shown (trial_text input) n o'
 shown {input} {s} {w} {o} {r} {s'} {w'} {o'} {n} h e = go (ltb (length s) 49408) (ltb (length w) 40960) (ltb (length o) 74262) refl refl refl
   where
     says : ok n ≡ (trial_text_call input s w o).says

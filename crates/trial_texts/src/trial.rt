@@ -9,9 +9,9 @@ ghost use Rattle.trial_texts.specs.TrialText.{TrialTexts};
 
 use crate::lines::load_line;
 use crate::steps::{default_text, schedule_text};
-use loads::entry::{Loaded, raw_load};
+use loads::entry::raw_load;
 use places::two_at;
-use texts::entry::{Text, judge_text};
+use texts::entry::{ShortBuffer, judge_text};
 use zeros::clear;
 
 // How many bytes of the input are the image.
@@ -49,8 +49,9 @@ fn load_text(image: &[u8], schedule: &[u8], state: &mut [u8], out: &mut [u8], at
     ensures { LoadPrints image.now schedule.now state.old out.old at state.new out.new result }
 {
     match raw_load(image, state) {
-        Loaded::Done => run_text(schedule, state, out, at),
-        Loaded::Refused(n, _) => {
+        Ok(()) => run_text(schedule, state, out, at),
+        Err(refusal) => {
+            let n = refusal.number();
             if n < 10 {
                 return at;
             }
@@ -61,23 +62,21 @@ fn load_text(image: &[u8], schedule: &[u8], state: &mut [u8], out: &mut [u8], at
 
 // The trial's text for an input, first in the lent buffer. The state's bytes are zero afterwards. That the work buffer is too short is told by the
 // judge's text, which then has changed nothing.
-pub fn trial_text(input: &[u8], state: &mut [u8], work: &mut [u8], out: &mut [u8]) -> Text
+pub fn trial_text(
+    input: &[u8],
+    state: &mut [u8],
+    work: &mut [u8],
+    out: &mut [u8],
+) -> Result<usize, ShortBuffer>
     ensures { TrialTexts input.now state.old work.old out.old result state.new work.new out.new }
 {
-    if state.len() < 49408 {
-        return Text::ShortBuffer;
-    }
-    if out.len() < 74262 {
-        return Text::ShortBuffer;
+    if state.len() < 49408 || out.len() < 74262 {
+        return Err(ShortBuffer);
     }
     let n = image_length(input);
     let m = schedule_end(input, n);
-    match judge_text(&input[..n], work, out) {
-        Text::Written(at) => {
-            let end = load_text(&input[..n], &input[n..m], state, out, at);
-            clear(&mut state[..49408]);
-            Text::Written(end)
-        }
-        Text::ShortBuffer => Text::ShortBuffer,
-    }
+    let at = judge_text(&input[..n], work, out)?;
+    let end = load_text(&input[..n], &input[n..m], state, out, at);
+    clear(&mut state[..49408]);
+    Ok(end)
 }

@@ -6,13 +6,13 @@ use Rattle.trial_texts.proofs.trial.First.{first_state}
 use Rattle.trial_texts.proofs.trial.load_text.Goals as goal
 
 pub run_text-requires : goal.run_text-requires
-run_text-requires c = run_ready c.args.image.now c.args.schedule.now c.requires (loaded c.requires.for_state (first_state c.args.image.now (all_places _ 0 (λ k h. (c.type_inv.image k).fits))) (load_as c.raw_load.ensures c.in-Done.is))
+run_text-requires c = run_ready c.args.image.now c.args.schedule.now c.requires (loaded c.requires.for_state (first_state c.args.image.now (all_places _ 0 (λ k h. (c.type_inv.image k).fits))) (load_as c.raw_load.ensures c.in-Ok.is))
 
 pub returns-then-n-lt10 : goal.returns-then-n-lt10
-returns-then-n-lt10 c = load_unread c.args.image.now c.args.schedule.now c.requires (load_as c.raw_load.ensures c.in-Refused.is) (omega (arith, c.if-n-lt10.true))
+returns-then-n-lt10 c = load_unread c.args.image.now c.args.schedule.now c.requires (load_as c.raw_load.ensures c.in-Err.is) (omega (arith, c.if-n-lt10.true))
 
-pub returns-in-Done : goal.returns-in-Done
-returns-in-Done c = load_run c.args.image.now c.args.schedule.now c.requires (loaded c.requires.for_state (first_state c.args.image.now (all_places _ 0 (λ k h. (c.type_inv.image k).fits))) (load_as c.raw_load.ensures c.in-Done.is)) c.run_text.ensures
+pub returns-in-Ok : goal.returns-in-Ok
+returns-in-Ok c = load_run c.args.image.now c.args.schedule.now c.requires (loaded c.requires.for_state (first_state c.args.image.now (all_places _ 0 (λ k h. (c.type_inv.image k).fits))) (load_as c.raw_load.ensures c.in-Ok.is)) c.run_text.ensures
 
 pub returns-else-n-lt10 : goal.returns-else-n-lt10
-returns-else-n-lt10 c = load_refused c.args.image.now c.args.schedule.now c.requires (load_as c.raw_load.ensures c.in-Refused.is) c.if-n-lt10.false c.load_line.ensures
+returns-else-n-lt10 c = load_refused c.args.image.now c.args.schedule.now c.requires (load_as c.raw_load.ensures c.in-Err.is) c.if-n-lt10.false c.load_line.ensures
