@@ -20,7 +20,7 @@ fn step_lowest(state: &mut [u8], card: Card, scratch: &mut Scratch) -> bool
     ensures { StepsLowest (card_of card) state.old state.new result }
 {
     for i in 0..byte_at(state, 3) {
-        if step_held(state, i as u64, card, scratch).is_ok() {
+        if step_held(state, u64::from(i), card, scratch).is_ok() {
             return true;
         }
     }
