@@ -33,10 +33,6 @@ pub record DefaultRuns (card : Card) (before : List ℕ) (limit : ℕ) (after : 
   pub says : default_call card limit before
       ≡ record { answer = (told_default (case_of r)).answer; steps = (told_default (case_of r)).steps; state = after }
 
--- on a buffer that holds a state there are steps
-abbrev pub DefaultSteps : Card → (before : List ℕ) → (limit : ℕ) → (after : List ℕ) → ℕ → Type 0
-DefaultSteps card before limit after n = DefaultRuns card before limit after (Ok n)
-
 abbrev run_of : DefaultCase → Result ℕ Unfit
 run_of (DefaultCase.ran n) = Ok n
 run_of DefaultCase.buffer_short = Err BufferShort

@@ -12,6 +12,7 @@ use Rattle.slots.specs.WayTerm.{found}
 use Rattle.slots.specs.WaySecond.{second_end, second_alone}
 use Rattle.slots.specs.Moves.{redex_at, redex_end}
 use Rattle.machine.specs.declared.step.Due.{Due}
+use Rattle.machine.specs.Cuts.{Cut}
 use Rattle.machine.specs.Means.{Part, part_bytes, part_cut}
 use Rattle.machine.specs.Cutting.{Second}
 
@@ -87,3 +88,9 @@ module _ {s : List ℕ} (w : Whole s) {p : ℕ} {second : Option ℕ} (h : Place
     }
 
 -- it stands within the thread
+
+-- it stands within the thread
+pub parted_cut : {s : List ℕ} {d : Due} → Whole s → Parted s d → Cut s d.from d.to
+parted_cut {s} {d} w h =
+    subst (λ z. Cut z d.from d.to) (sym w.bytes)
+    (part_cut (due_part w.term (h.from ∙ ap place_of w.bytes) (h.to ∙ ap (λ z. skip_of z d.from) w.bytes)))

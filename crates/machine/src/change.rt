@@ -47,8 +47,8 @@ pub(crate) fn change(state: &mut [u8], card: Card, s: &[u8], also: Also)
             let count = byte_at(state, 5);
             put_byte(state, 5, count + 1);
         }
-        Also::Taken(l) => put_byte(state, 6 + l as usize, 1),
-        Also::Released(l) => put_byte(state, 6 + l as usize, 0),
+        Also::Taken(l) => put_byte(state, 6 + usize::from(l), 1),
+        Also::Released(l) => put_byte(state, 6 + usize::from(l), 0),
         Also::NewThread(i) => new_thread(state, card, i, &s[1..]),
     }
 }

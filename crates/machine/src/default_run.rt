@@ -1,10 +1,11 @@
 // "The default run (answers 1 and 18 first) steps the lowest-numbered thread that can, until none can or a given limit is reached, and reports
 // the steps (0 if refused)."
+ghost use Rattle.std.specs.Prelude.{Ok};
 ghost use Rattle.paper.specs.States.{sixteen};
 ghost use Rattle.plans.specs.Card.{card_of};
 ghost use Rattle.machine.specs.Answering.{Held};
 ghost use Rattle.machine.specs.Lowest.{StepsLowest};
-ghost use Rattle.machine.specs.DefaultCalls.{DefaultSteps, DefaultRuns};
+ghost use Rattle.machine.specs.DefaultCalls.{DefaultRuns};
 
 use crate::scratch::Scratch;
 use crate::step::step_held;
@@ -19,7 +20,7 @@ fn step_lowest(state: &mut [u8], card: Card, scratch: &mut Scratch) -> bool
     ensures { StepsLowest (card_of card) state.old state.new result }
 {
     for i in 0..byte_at(state, 3) {
-        if step_held(state, i as u64, card, scratch).is_ok() {
+        if step_held(state, u64::from(i), card, scratch).is_ok() {
             return true;
         }
     }
@@ -28,7 +29,7 @@ fn step_lowest(state: &mut [u8], card: Card, scratch: &mut Scratch) -> bool
 
 fn default_held(state: &mut [u8], limit: u64, card: Card, scratch: &mut Scratch) -> u64
     requires { Held (card_of card) state.old }
-    ensures { DefaultSteps (card_of card) state.old limit state.new result }
+    ensures { DefaultRuns (card_of card) state.old limit state.new (Ok result) }
 {
     for steps in 0..limit {
         if !step_lowest(state, card, scratch) {

@@ -53,7 +53,7 @@ pub(crate) fn make_lock(
     requires short { length s.now ≤ 2048 }
     ensures { LockMade s.now count room (length out.old) out.new result }
 {
-    let l = count as usize;
+    let l = usize::from(count);
     if room <= l {
         return Err(NoStep::TooMany);
     }
@@ -64,7 +64,7 @@ pub(crate) fn make_lock(
 pub(crate) fn make_cell(s: &[u8], count: u8, card: Card, out: &mut [u8]) -> Result<Goes, NoStep>
     ensures { CellMade s.now count card.cells card.cell_bytes (length out.old) out.new result }
 {
-    let j = count as usize;
+    let j = usize::from(count);
     if card.cells <= j {
         return Err(NoStep::TooMany);
     }
@@ -93,7 +93,7 @@ pub(crate) fn read(s: &[u8], state: &[u8], card: Card, out: &mut [u8]) -> Result
         return Err(NoStep::IsStuck);
     }
     let m = fill(&state[slot.base..end], out, 0);
-    goes_on(Kind::Read, j as usize, m, Also::Nothing)
+    goes_on(Kind::Read, usize::from(j), m, Also::Nothing)
 }
 
 pub(crate) fn write(p: Parts, size: usize, out: &mut [u8]) -> Result<Goes, NoStep>
@@ -107,13 +107,13 @@ pub(crate) fn write(p: Parts, size: usize, out: &mut [u8]) -> Result<Goes, NoSte
         return Err(NoStep::TooLong);
     }
     let n = fill(&[UNIT], out, 0);
-    goes_on(Kind::Write, j as usize, n, Also::SetCell(j, p.second))
+    goes_on(Kind::Write, usize::from(j), n, Also::SetCell(j, p.second))
 }
 
 pub(crate) fn fork(s: &[u8], count: u8, room: usize, out: &mut [u8]) -> Result<Goes, NoStep>
     ensures { Forked s.now count room (length out.old) out.new result }
 {
-    let i = count as usize;
+    let i = usize::from(count);
     if room <= i {
         return Err(NoStep::TooMany);
     }
@@ -129,11 +129,12 @@ pub(crate) fn take(p: Parts, state: &[u8], out: &mut [u8]) -> Result<Goes, NoSte
         return Err(NoStep::IsStuck);
     }
     let l = byte_at(p.bytes, 2);
-    if byte_at(state, 6 + l as usize) != 0 {
-        return Err(NoStep::WaitsFor(l as usize));
+    let number = usize::from(l);
+    if byte_at(state, 6 + number) != 0 {
+        return Err(NoStep::WaitsFor(number));
     }
     let n = fill_both(&[OPEN, l], &p.bytes[p.second..], out, 0);
-    goes_on(Kind::Take, l as usize, n, Also::Taken(l))
+    goes_on(Kind::Take, number, n, Also::Taken(l))
 }
 
 // The lock stands behind the code, and the part behind the lock.
@@ -143,7 +144,7 @@ pub(crate) fn release(s: &[u8], out: &mut [u8]) -> Result<Goes, NoStep>
 {
     let l = byte_at(s, 1);
     let n = fill(&s[2..], out, 0);
-    goes_on(Kind::Release, l as usize, n, Also::Released(l))
+    goes_on(Kind::Release, usize::from(l), n, Also::Released(l))
 }
 
 fn word_at(s: &[u8], k: usize) -> u32

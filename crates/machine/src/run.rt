@@ -27,7 +27,7 @@ fn run_held(state: &mut [u8], schedule: &[u8], card: Card, scratch: &mut Scratch
     let mut steps: usize = 0;
     let mut last = 0;
     for thread in schedule {
-        last = answer_of(step_held(state, *thread as u64, card, scratch));
+        last = answer_of(step_held(state, u64::from(*thread), card, scratch));
         if last == 0 {
             steps += 1;
         }

@@ -86,7 +86,7 @@ pub(crate) fn step_held(
     ensures { Answers (card_of card) state.old i state.new result }
 {
     let count = byte_at(state, 3);
-    if count as u64 <= i {
+    if u64::from(count) <= i {
         return Err(NoStep::NoSuchThread);
     }
     let i = i as u8;

@@ -24,10 +24,10 @@ pub returns-in-NewLock : goal.returns-in-NewLock
 returns-in-NewLock c = altered c.in-NewLock.is (alters_new_lock c.args.card.fits (subst (λ j. Puts 5 (j + 1) c.args.state.now c.put_byte.new.s) c.byte_at-count.ensures c.put_byte.ensures))
 
 pub returns-in-Taken : goal.returns-in-Taken
-returns-in-Taken c = altered c.in-Taken.is (alters_taken c.args.card.fits c.put_byte-in-Taken.ensures)
+returns-in-Taken c = altered c.in-Taken.is (alters_taken c.args.card.fits (rw c.from.ensures at c.put_byte-in-Taken.ensures))
 
 pub returns-in-Released : goal.returns-in-Released
-returns-in-Released c = altered c.in-Released.is (alters_released c.args.card.fits c.put_byte-in-Released.ensures)
+returns-in-Released c = altered c.in-Released.is (alters_released c.args.card.fits (rw c.from-in-Released.ensures at c.put_byte-in-Released.ensures))
 
 pub returns-in-NewThread : goal.returns-in-NewThread
 returns-in-NewThread c = altered c.in-NewThread.is (alters_new_thread c.args.card.fits c.new_thread.ensures)

@@ -4,10 +4,10 @@ use Rattle.machine.specs.Doing.{cell_full, cell_long, cell_made_lem}
 use Rattle.machine.proofs.kinds.make_cell.Goals as goal
 
 pub returns-then-card-j : goal.returns-then-card-j
-returns-then-card-j c = cell_full c.if-card-j.true
+returns-then-card-j c = cell_full (rw c.from-j.ensures at c.if-card-j.true)
 
 pub returns-then-card-s : goal.returns-then-card-s
-returns-then-card-s c = cell_long c.if-card-j.false (omega (arith, c.if-card-s.true))
+returns-then-card-s c = cell_long (rw c.from-j.ensures at c.if-card-j.false) (omega (arith, c.if-card-s.true))
 
 pub returns : goal.returns
-returns c = rw c.goes_on.ensures (cell_made_lem c.if-card-j.false (omega (arith, c.if-card-s.false)) c.fill-n.ensures)
+returns c = rw (c.goes_on.ensures, c.from-j.ensures) (cell_made_lem (rw c.from-j.ensures at c.if-card-j.false) (omega (arith, c.if-card-s.false)) c.fill-n.ensures)

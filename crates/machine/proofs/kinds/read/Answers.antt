@@ -12,4 +12,4 @@ pub returns-then-state-end : goal.returns-then-state-end
 returns-then-state-end c = read_end c.if-s-ne-CELL.false c.byte_at-j.ensures (rw c.cell-slot.ensures at c.two_at-n.ensures) (rw c.cell-slot.ensures at c.if-slot-n.false) (rw c.cell-slot.ensures at c.if-state-end.true)
 
 pub returns : goal.returns
-returns c = rw c.goes_on.ensures (read_done c.if-s-ne-CELL.false c.byte_at-j.ensures (rw c.cell-slot.ensures at c.two_at-n.ensures) (rw c.cell-slot.ensures at c.fill-m.ensures))
+returns c = rw (c.goes_on.ensures, c.from.ensures) (read_done c.if-s-ne-CELL.false c.byte_at-j.ensures (rw c.cell-slot.ensures at c.two_at-n.ensures) (rw c.cell-slot.ensures at c.fill-m.ensures))

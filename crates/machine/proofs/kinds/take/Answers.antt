@@ -7,7 +7,7 @@ pub returns-then-p-ne-LOCK : goal.returns-then-p-ne-LOCK
 returns-then-p-ne-LOCK c = take_stuck c.if-p-ne-LOCK.true
 
 pub returns-then-byte_at-ne0 : goal.returns-then-byte_at-ne0
-returns-then-byte_at-ne0 c = take_waits c.if-p-ne-LOCK.false c.byte_at-l.ensures (λ z. c.if-byte_at-ne0.true (c.byte_at.ensures ∙ z))
+returns-then-byte_at-ne0 c = rw c.from-number.ensures (take_waits c.if-p-ne-LOCK.false c.byte_at-l.ensures (λ z. c.if-byte_at-ne0.true ((rw c.from-number.ensures at c.byte_at.ensures) ∙ z)))
 
 pub returns : goal.returns
-returns c = rw c.goes_on.ensures (take_done c.if-p-ne-LOCK.false c.byte_at-l.ensures (sym c.byte_at.ensures ∙ c.if-byte_at-ne0.false) c.fill_both-n.ensures)
+returns c = rw (c.goes_on.ensures, c.from-number.ensures) (take_done c.if-p-ne-LOCK.false c.byte_at-l.ensures (sym (rw c.from-number.ensures at c.byte_at.ensures) ∙ c.if-byte_at-ne0.false) c.fill_both-n.ensures)

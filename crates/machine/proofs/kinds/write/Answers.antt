@@ -9,4 +9,4 @@ pub returns-then-size-p : goal.returns-then-size-p
 returns-then-size-p c = write_long c.if-p-ne-CELL.false c.if-size-p.true
 
 pub returns : goal.returns
-returns c = rw c.goes_on.ensures (write_done c.if-p-ne-CELL.false c.byte_at-j.ensures c.if-size-p.false c.fill-n.ensures)
+returns c = rw (c.goes_on.ensures, c.from.ensures) (write_done c.if-p-ne-CELL.false c.byte_at-j.ensures c.if-size-p.false c.fill-n.ensures)
