@@ -17,9 +17,6 @@ lists_c_unique a b =
     (ap (λ (x : ItemTold). x.answer) e, ap (λ (x : ItemTold). x.code) e, ap (λ (x : ItemTold). x.place) e, a.stands ∙ sym b.stands)
 
 -- what the lister tells, by its case
-pub listed : {image : List ℕ} {i : ℕ} {item given : Answer} {r code place next : ℕ} → Lists image i item → item ≡ given
+pub listed : {image : List ℕ} {i : ℕ} {given : Answer} {r code place next : ℕ} → Lists image i given
     → record { answer = r; code = code; place = place } ≡ told_item (told given) → next ≡ stands i given → ListsC image i r code place next
-listed {i = i} l e says n = record {
-  says = says ∙ ap (λ x. told_item (told x)) (sym e) ∙ ap told_item l.says;
-  stands = n ∙ ap (stands i) (sym e) ∙ l.place;
-}
+listed l says n = record { says = says ∙ ap told_item l.says; stands = n ∙ l.place }

@@ -1,6 +1,7 @@
 -- The race finder for C: above the number of the answer stands whether there is a pair, and above it the pair's two threads and the cell.
-use Rattle.std.specs.Prelude.{◌≡◌, refl, Bool, true, false, List, ℕ, ltb, length, Err}
-use Rattle.std.proofs.Common.{sym, ap, ◌∙◌, ltb-true, ltb-false}
+use Rattle.std.specs.Prelude.{◌≡◌, refl, Bool, true, false, List, ℕ, ltb, length, Some, None, Result, Ok, Err}
+use Rattle.std.specs.Prelude as code
+use Rattle.std.proofs.Common.{sym, ap, ◌∙◌, subst, ltb-true, ltb-false}
 use Rattle.std.proofs.Math.Option.{Option, none, some}
 use Rattle.paper.specs.States.{State, sixteen, total}
 use Rattle.paper.specs.StateOf.{state_of}
@@ -15,6 +16,7 @@ use Rattle.paper.specs.Cases.{told_race}
 use Rattle.states.specs.declared.Unfit.{Unfit}
 use Rattle.states.specs.declared.Unfit.TheVariants.{BufferShort, NoState}
 use Rattle.states.specs.Unfit.{number}
+use Rattle.states.specs.declared.races.Pair.{Pair}
 use Rattle.states.specs.RaceIs.{case_of}
 use Rattle.bench.specs.Packing.{below}
 
@@ -28,6 +30,16 @@ pub record RacesC (s : List ℕ) (r : ℕ) : Type 0 where
 -- no second number fits
 pub races_c_unique : {s : List ℕ} {r q : ℕ} → RacesC s r → RacesC s q → r ≡ q
 races_c_unique a b = a.says ∙ sym b.says
+
+-- what the code packs, by its case
+module _ {r : Result (code.Option Pair) Unfit} where
+  pub pair_packed : {p : Pair} → r ≡ Ok (Some p) → below 0 (below 1 (below p.first (below p.second p.cell))) ≡ packed (told_race (case_of r))
+  unfolding packed told_race
+  pair_packed e = ap (λ v. packed (told_race (case_of v))) (sym e)
+
+  pub none_packed : r ≡ Ok None → 0 ≡ packed (told_race (case_of r))
+  unfolding packed below told_race
+  none_packed e = ap (λ v. packed (told_race (case_of v))) (sym e)
 
 -- a refusal's number stands alone
 pub packed_unfit : (u : Unfit) → packed (told_race (case_of (Err u))) ≡ number u
@@ -53,3 +65,7 @@ call_fits s = go (ltb (length s) (total sixteen)) refl (state_of sixteen s) refl
         let k = state_holds sixteen sixteen_fits s S e in
         let c = race_call_lem sixteen sixteen_fits s S (ltb-false (length s) (total sixteen) q) k in
         race_small sixteen S sixteen_fits k.state r (ap (λ (x : RaceCall). x.pair) (sym c) ∙ h)
+
+pub pair_small : {r : Result (code.Option Pair) Unfit} {p : Pair} → r ≡ Ok (Some p) → Fits (told_race (case_of r)) → SmallRace (record { first = p.first; second = p.second; cell = p.cell })
+unfolding told_race
+pair_small e h = subst (λ v. Fits (told_race (case_of v))) e h _ refl

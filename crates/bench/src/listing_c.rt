@@ -1,6 +1,8 @@
 // The lister. Its parts are whole words, so they are written through references.
 ghost use Rattle.bench.specs.Listing.{ListsC};
 
+use lister::Item;
+
 pub fn laverockin_next(
     image: &[u8],
     at: usize,

@@ -1,6 +1,6 @@
 -- A program that the judged load loads never races, whatever steps are called for: over the contracts of the public functions, so of what the
 -- code does.
-use Rattle.std.specs.Prelude.{◌≡◌, List, [], ◌∷◌, ℕ}
+use Rattle.std.specs.Prelude.{◌≡◌, List, [], ◌∷◌, ℕ, Ok}
 use Rattle.std.proofs.Common.{sym, ap, ◌∙◌, subst}
 use Rattle.paper.specs.Base.{Bytes}
 use Rattle.paper.specs.Types.{Ty}
@@ -13,9 +13,8 @@ use Rattle.laws.specs.Verdicts.{Accepted}
 use Rattle.safety.specs.Statement.{Allowed, DemandAt, AlwaysAt}
 use Rattle.safety.specs.Demand.{safe_at, safe_judged_at}
 use Rattle.states.specs.RaceIs.{raced_one}
-use Rattle.loads.specs.declared.entry.Loaded.TheVariants.{Done}
 use Rattle.loads.specs.Contract.{RawLoads, JudgedLoads}
-use Rattle.machine.specs.declared.step.Step.{Step}
+use Rattle.machine.specs.Answer.{Step}
 use Rattle.machine.specs.Answering.{case_of}
 use Rattle.machine.specs.Public.{Steps}
 use Rattle.promise.specs.Calls.{Run, stop, next, Moment, Safe}
@@ -47,12 +46,12 @@ safe_run locks s (next i r s' c run) d =
     (moment s locks d.0, (d.1.0, d.1.1, safe_run d.1.0 s' run (subst (λ x. AlwaysAt sixteen d.1.0 x (numbers run)) (left c) d.1.2)))
 
 module _ (image : List ℕ) (bytes : Bytes image) where
-  pub safe : (b work s work' : List ℕ) → JudgedLoads image b work Done s work' → (run : Run s) → Safe [] s run
+  pub safe : (b work s work' : List ℕ) → JudgedLoads image b work (Ok tt) s work' → (run : Run s) → Safe [] s run
   safe b work s work' c run =
       safe_run [] s run
       (subst (λ x. AlwaysAt sixteen [] x (numbers run)) (sym c.state) (safe_judged_at sixteen sixteen_fits image bytes b work (sym c.says) (numbers run)))
 
   -- the same with the rules as the premise, and the raw load
-  pub safe_raw : (t : Ty) → Accepted image t → (b s : List ℕ) → RawLoads image b Done s → (run : Run s) → Safe [] s run
+  pub safe_raw : (t : Ty) → Accepted image t → (b s : List ℕ) → RawLoads image b (Ok tt) s → (run : Run s) → Safe [] s run
   safe_raw t a b s c run =
       safe_run [] s run (subst (λ x. AlwaysAt sixteen [] x (numbers run)) (sym c.state) (safe_at sixteen sixteen_fits image bytes t a b (sym c.says) (numbers run)))

@@ -141,17 +141,17 @@ module _ (image schedule : List ℕ) where
           beyond = subst (Beyond s) (sym r.1) (beyond_same s);
         }
 
-    pub load_refused : {s' out' : List ℕ} {e : Refusal} {end : ℕ} → RawLoads image s (Err e) s' → 10 ≤ number e → Written (take at out ++ load_line (number e)) out out' end
+    pub load_refused : {s' out' : List ℕ} {e : Refusal} {n end : ℕ} → RawLoads image s (Err e) s' → n ≡ number e → 10 ≤ n → Written (take at out ++ load_line n) out out' end
         → LoadPrints image schedule s out at s' out' end
-    load_refused {s'} {out'} {e} {end} a h v =
+    load_refused {s'} {out'} {e} {n} {end} a same h v =
         let r = not_loaded a in
         let f = raw_refusal image r.0 in
         let m = refusal_most image f in
         let k = w.space in
-        let l : length (load_line (number e)) ≤ 8 = omega (arith, decimal_length 1 (number e) (omega arith), length-append (decimal (number e)) (0x0A ∷ [])) in
-        let q : Put out out' at (load_line (number e)) end = written_put (omega arith) v in
+        let l : length (load_line n) ≤ 8 = omega (arith, decimal_length 1 n (omega arith), length-append (decimal n) (0x0A ∷ [])) in
+        let q : Put out out' at (load_line n) end = written_put (omega arith) v in
         record {
-          text = subst (λ (x : List ℕ). Put out out' at x end) (sym (behind_long image schedule f h ∙ load_no (number e) (place e) r.0)) q;
+          text = subst (λ (x : List ℕ). Put out out' at x end) (sym (behind_long image schedule f (rw (← same) h) ∙ load_no n (place e) (r.0 ∙ ap (λ (k : ℕ). refused k (place e)) (sym same)))) q;
           inside = let z = q.end in omega arith;
           beyond = subst (Beyond s) (sym r.1) (beyond_same s);
         }

@@ -4,7 +4,7 @@ use Rattle.bench.specs.Judging.{packed, Fits, call_fits}
 use Rattle.bench.proofs.judging_c.laverockin_judge.Goals as goal
 
 pub pack-requires : goal.pack-requires
-pack-requires c = subst Fits (sym c.judge-verdict.ensures.says) (call_fits _ _ _)
+pack-requires c = subst Fits (sym c.judge.ensures.says) (call_fits _ _ _)
 
 pub returns : goal.returns
-returns c = let j = c.judge-verdict.ensures in record { says = c.pack.ensures ∙ ap packed j.says; types = j.types; work = j.work }
+returns c = let j = c.judge.ensures in record { says = c.pack.ensures ∙ ap packed j.says; types = j.types; work = j.work }

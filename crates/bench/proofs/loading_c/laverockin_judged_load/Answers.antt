@@ -4,7 +4,7 @@ use Rattle.bench.specs.Loading.{packed, Fits, judged_call_fits}
 use Rattle.bench.proofs.loading_c.laverockin_judged_load.Goals as goal
 
 pub pack-requires : goal.pack-requires
-pack-requires c = subst Fits (sym c.judged_load-loaded.ensures.says) (judged_call_fits _ _ _)
+pack-requires c = subst Fits (sym c.judged_load.ensures.says) (judged_call_fits _ _ _)
 
 pub returns : goal.returns
-returns c = let j = c.judged_load-loaded.ensures in record { says = c.pack.ensures ∙ ap packed j.says; state = j.state; work = j.work }
+returns c = let j = c.judged_load.ensures in record { says = c.pack.ensures ∙ ap packed j.says; state = j.state; work = j.work }

@@ -4,7 +4,7 @@ use Rattle.bench.specs.Loading.{packed, Fits, raw_call_fits}
 use Rattle.bench.proofs.loading_c.laverockin_raw_load.Goals as goal
 
 pub pack-requires : goal.pack-requires
-pack-requires c = subst Fits (sym c.raw_load-loaded.ensures.says) (raw_call_fits _ _)
+pack-requires c = subst Fits (sym c.raw_load.ensures.says) (raw_call_fits _ _)
 
 pub returns : goal.returns
-returns c = let j = c.raw_load-loaded.ensures in record { says = c.pack.ensures ∙ ap packed j.says; state = j.state }
+returns c = let j = c.raw_load.ensures in record { says = c.pack.ensures ∙ ap packed j.says; state = j.state }

@@ -4,4 +4,4 @@ use borrow.Author.Rules.{rules}
 use Rattle.bench.proofs.pack.below.Goals as goal
 
 pub returns : goal.returns
-returns c = packs c.args.low c.args.rest (search rules)
+returns c = packs c.args.low c.args.rest c.from.ensures (search rules)

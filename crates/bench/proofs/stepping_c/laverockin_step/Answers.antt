@@ -8,7 +8,7 @@ use Rattle.bench.specs.Stepping.{packed}
 use Rattle.bench.proofs.stepping_c.laverockin_step.Goals as goal
 
 pub pack-requires : goal.pack-requires
-pack-requires c = subst (λ (r : StepCall). Small r.says) c.step-answer.ensures.answers.says (call_small sixteen sixteen_fits _ _)
+pack-requires c = subst (λ (r : StepCall). Small r.says) c.step.ensures.answers.says (call_small sixteen sixteen_fits _ _)
 
 pub returns : goal.returns
-returns c = let s = c.step-answer.ensures.answers.says in record { says = c.pack.ensures ∙ ap (λ (r : StepCall). packed r.says) (sym s); state = ap (λ (r : StepCall). r.state) (sym s) }
+returns c = let s = c.step.ensures.answers.says in record { says = c.pack.ensures ∙ ap (λ (r : StepCall). packed r.says) (sym s); state = ap (λ (r : StepCall). r.state) (sym s) }

@@ -35,5 +35,5 @@ returns-in-WaitsFor c = c.below-in-WaitsFor-2.ensures.says ∙ ap (below 21) c.b
 
 pub returns-in_default : goal.returns-in_default
 returns-in_default c =
-    c.answer_of.ensures.says ∙ sym (packed_alone c.in-Err.why c.in_default.not-WaitsFor)
+    c.from.ensures ∙ c.answer_of.ensures.says ∙ sym (packed_alone c.in-Err.why c.in_default.not-WaitsFor)
     ∙ ap (λ v. packed (told (case_of v))) (sym c.in-Err.is)

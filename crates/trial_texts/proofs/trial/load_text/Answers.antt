@@ -15,4 +15,4 @@ pub returns-in-Ok : goal.returns-in-Ok
 returns-in-Ok c = load_run c.args.image.now c.args.schedule.now c.requires (loaded c.requires.for_state (first_state c.args.image.now (all_places _ 0 (λ k h. (c.type_inv.image k).fits))) (load_as c.raw_load.ensures c.in-Ok.is)) c.run_text.ensures
 
 pub returns-else-n-lt10 : goal.returns-else-n-lt10
-returns-else-n-lt10 c = load_refused c.args.image.now c.args.schedule.now c.requires (load_as c.raw_load.ensures c.in-Err.is) c.if-n-lt10.false c.load_line.ensures
+returns-else-n-lt10 c = load_refused c.args.image.now c.args.schedule.now c.requires (load_as c.raw_load.ensures c.in-Err.is) (c.number-n.ensures) c.if-n-lt10.false c.load_line.ensures
