@@ -132,7 +132,7 @@ pub(crate) fn first_lam(
 {
     let p = part - 4;
     let set = number(img, p);
-    if a.need & set != a.need {
+    if a.need & u64::from(set) != a.need {
         return Err(Refusal::UndeclaredNeed(at));
     }
     let from = slot_of(left - 1);

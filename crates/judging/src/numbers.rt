@@ -12,18 +12,18 @@ pub(crate) fn number(s: &[u8], at: usize) -> u32
     u32::from_be_bytes([s[at], s[at + 1], s[at + 2], s[at + 3]])
 }
 
-// The set of one lock.
-pub(crate) fn only(k: u8) -> u32
+// The set of one lock, as a need.
+pub(crate) fn only(k: u8) -> u64
     requires { k < 32 }
     ensures { result ≡ single k }
 {
-    1u32 << k
+    1u64 << k
 }
 
 // A need without the lock k.
-pub(crate) fn less(m: u32, k: u8) -> u32
+pub(crate) fn less(m: u64, k: u8) -> u64
     requires { k < 32 }
-    ensures { result ≡ sets.less m (single k) }
+    ensures { m < 4294967296 → result ≡ sets.less m (single k) }
 {
     m & !only(k)
 }

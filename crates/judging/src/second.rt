@@ -25,7 +25,7 @@ pub(crate) fn second_app(work: &mut [u8], left: u8, a: Typed, b: Typed) -> Resul
     let set = number(work, p);
     copies::copy(work, p + 4, to);
     Ok(Typed {
-        need: a.need | b.need | set,
+        need: a.need | b.need | u64::from(set),
         ..b
     })
 }
@@ -113,7 +113,7 @@ pub(crate) fn after_third(
     part: usize,
     work: &mut [u8],
     left: u8,
-    kept: u32,
+    kept: u64,
     c: Typed,
 ) -> Result<Typed, Refusal>
     requires { AskedIn3 img.now at work.old left }

@@ -24,4 +24,4 @@ pub returns-in_err-ok_or : goal.returns-in_err-ok_or
 returns-in_err-ok_or c = let h = missing _ _ _ c.ok_or.ensures.value c.in_err-ok_or.was c.from_residual.ensures in λ img at n O e. rw h.1 (app_stop O e (rw (c.slot_of-to.ensures, c.slot_of-from.ensures) at c.related.ensures) h.0)
 
 pub returns : goal.returns
-returns c = λ img at n O e. rw c.number-set.ensures (app_go O e (rw (c.slot_of-to.ensures, c.slot_of-from.ensures) at c.related.ensures) _ _ _ (a_value _ _ c.ok_or.ensures.value c.in_ok-ok_or.was) (rw c.slot_of-to.ensures at c.skip-p.ensures) (rw c.slot_of-to.ensures at c.copy.ensures))
+returns c = λ img at n O e. rw (c.from.ensures, c.number-set.ensures) (app_go O e (rw (c.slot_of-to.ensures, c.slot_of-from.ensures) at c.related.ensures) _ _ _ (a_value _ _ c.ok_or.ensures.value c.in_ok-ok_or.was) (rw c.slot_of-to.ensures at c.skip-p.ensures) (rw c.slot_of-to.ensures at c.copy.ensures))
