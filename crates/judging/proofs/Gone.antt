@@ -8,7 +8,7 @@ use Rattle.paper.specs.Sets.{union, less, single}
 use Rattle.judging.proofs.SetBits.{union_or, less_le}
 use Rattle.judging.specs.Answer.{gives}
 
-small : (n a : ℕ) → n ≤ 32 → a < 2 ^ n → a < 2 ^ 32
+pub small : (n a : ℕ) → n ≤ 32 → a < 2 ^ n → a < 2 ^ 32
 small n a l h = lt_of_lt_of_le h (pow_mono l)
 
 -- the answer x of the code is the need y of the rules

@@ -1,8 +1,9 @@
 -- The paper's sets, bit by bit over 32 names, are what the code's `|`, `&` and `!` compute on numbers below 2^32.
-use mathlib.Core.Path.{◌≡◌, refl, sym, ap, ap₂, ◌∙◌}
+use mathlib.Core.Path.{◌≡◌, sym, ap, ap₂, ◌∙◌}
 use mathlib.Core.Bool.{true, false}
 use Prim.Native.Nat.{ℕ, zero, suc, ◌+◌, ◌-◌, ◌*◌, ◌/◌, ◌%◌, ◌^◌, ◌≤◌, ◌<◌, min, max}
 use native.Mathlib.Omega.{arith}
+use native.Mathlib.Nat.{mul_assoc}
 use lib.Bits.{bit_and, bit_or, and_step, or_step}
 use borrow.Author.Tests.{eq-eqb, ne_eqb}
 use Rattle.paper.specs.Sets.{Set, has, bits, union, less}
@@ -17,20 +18,20 @@ pub union_or : (a b : Set) → a < 2 ^ 32 → b < 2 ^ 32 → union a b ≡ bit_o
 unfolding union
 union_or a b h k = or_bits 32 a b h k
 
-without_bits : (n a b : ℕ) → a < 2 ^ n → b < 2 ^ n → bits (λ x y. x - y) n a b ≡ bit_and a (2 ^ n - 1 - b)
+-- c has no bit of b, and all others
+without_bits : (n a b c q : ℕ) → a < 2 ^ n → b < 2 ^ n → c ≡ q * 2 ^ n + (2 ^ n - 1 - b) → bits (λ x y. x - y) n a b ≡ bit_and a c
 unfolding bits
-without_bits zero a b h k = let x : a ≡ 0 = omega arith in rw x
-without_bits (suc n) a b h k =
-    let c = 2 ^ suc n - 1 - b in
-    let hi : c / 2 ≡ 2 ^ n - 1 - b / 2 = omega arith in
-    let lo : c % 2 ≡ 1 - b % 2 = omega arith in
-    let m : min (a % 2) (1 - b % 2) ≡ a % 2 - b % 2 = omega arith in
-    ap₂ (λ z w. z * 2 + w) (without_bits n (a / 2) (b / 2) (omega arith) (omega arith)) (sym m)
-    ∙ sym (and_step a c ∙ ap₂ (λ z w. bit_and (a / 2) z * 2 + min (a % 2) w) hi lo)
+without_bits zero a b c q h k e = let x : a ≡ 0 = omega arith in rw x
+without_bits (suc n) a b c q h k e =
+    let p : 2 ^ suc n ≡ 2 ^ n * 2 = omega arith in
+    let s : q * 2 ^ suc n ≡ q * 2 ^ n * 2 = ap (λ z. q * z) p ∙ sym (mul_assoc q (2 ^ n) 2) in
+    let hi : c / 2 ≡ q * 2 ^ n + (2 ^ n - 1 - b / 2) = omega arith in
+    let m : min (a % 2) (c % 2) ≡ a % 2 - b % 2 = omega arith in
+    ap₂ (λ z w. z * 2 + w) (without_bits n (a / 2) (b / 2) (c / 2) q (omega arith) (omega arith) hi) (sym m) ∙ sym (and_step a c)
 
-pub less_and : (a b : Set) → a < 2 ^ 32 → b < 2 ^ 32 → less a b ≡ bit_and a (2 ^ 32 - 1 - b)
+pub less_and : (a b : Set) → a < 2 ^ 32 → b < 2 ^ 32 → less a b ≡ bit_and a (2 ^ 64 - 1 - b)
 unfolding less
-less_and a b h k = without_bits 32 a b h k
+less_and a b h k = without_bits 32 a b (2 ^ 64 - 1 - b) (2 ^ 32 - 1) h k (omega arith)
 
 pub less_le : (a b : Set) → a < 2 ^ 32 → less a b ≤ a
 unfolding less

@@ -7,6 +7,7 @@ use Rattle.paper.specs.Reading.{got}
 use Rattle.paper.specs.Verdict as verdict
 use Rattle.judging.specs.Holds.{Kept}
 use Rattle.judging.specs.Copies.{Moved}
+use Rattle.reading.specs.declared.scope.Scope.{Scope}
 use Rattle.reading.specs.Placed.{Exp, place_of}
 use Rattle.reading.specs.First.{exp_at}
 use Rattle.reading.specs.Walk.{fields, binds1, locks1, binds2}
@@ -36,6 +37,17 @@ pub record Ready (img w : List ℕ) (at v n left : ℕ) : Type 0 where
 pub record Finds (img w w' : List ℕ) (at v n left : ℕ) (r : Answer) : Type 0 where
   pub frame : Frame w w' v left
   pub says : (x : Exp) (next : ℕ) (env : List Ty) → exp_at left v n img at ≡ got x next → Env w v n env → Out w' left n next (judge env x) r
+
+-- the same of what the expression stands under
+abbrev pub ReadyUnder : List ℕ → List ℕ → ℕ → Scope → Type 0
+ReadyUnder img w at s = Ready img w at s.vars s.locks s.left
+
+abbrev pub FindsUnder : List ℕ → List ℕ → List ℕ → ℕ → Scope → Answer → Type 0
+FindsUnder img w w' at s r = Finds img w w' at s.vars s.locks s.left r
+
+-- a rule is asked for an expression of its code
+abbrev pub Coded : List ℕ → List ℕ → ℕ → Scope → ℕ → Type 0
+Coded img w at s b = ReadyUnder img w at s × (get_or img at 0 ≡ b)
 
 -- only the slots of variables from v on change
 pub record EnvChange (w w' : List ℕ) (v : ℕ) : Type 0 where

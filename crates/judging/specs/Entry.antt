@@ -1,5 +1,5 @@
 -- What the public judge is stated by: the paper's `judge_call`.
-use Rattle.std.specs.Prelude.{ℕ, ◌≡◌, List, Result, Ok, Err}
+use Rattle.std.specs.Prelude.{ℕ, ◌≡◌, List, Result, Ok}
 use Rattle.paper.specs.Types.{Ty, ty_size, ty_bytes}
 use Rattle.paper.specs.Verdict.{Out, ok, refused, verdict}
 use Rattle.paper.specs.Calls.{laid, judge_call}

@@ -2,7 +2,7 @@
 // of locks there: it is raised when it is looked up, so that going under a new lock changes no variable.
 ghost use Rattle.std.specs.Prelude.{◌≡◌, ◌+◌, ◌-◌, get_or, Ok};
 ghost use Rattle.judging.specs.Copies.{Ends};
-ghost use Rattle.judging.specs.Contract.{Ready, Finds, Entered, Bindable, Bound, Starts};
+ghost use Rattle.judging.specs.Contract.{Coded, FindsUnder, Entered, Bindable, Bound, Starts};
 
 use crate::work::{Typed, slot_of, var_at};
 use crate::{copies, shift};
@@ -11,8 +11,8 @@ use reading::scope::Scope;
 
 // A unit has the type Unit, and needs nothing.
 pub(crate) fn unit(img: &[u8], at: usize, work: &mut [u8], scope: Scope) -> Typed
-    requires { Ready img.now work.old at scope.vars scope.locks scope.left × (get_or img.now at 0 ≡ 1) }
-    ensures { Finds img.now work.old work.new at scope.vars scope.locks scope.left (Ok result) }
+    requires { Coded img.now work.old at scope 1 }
+    ensures { FindsUnder img.now work.old work.new at scope (Ok result) }
 {
     work[slot_of(scope.left)] = TypeCode::Unit as u8;
     Typed {
@@ -23,8 +23,8 @@ pub(crate) fn unit(img: &[u8], at: usize, work: &mut [u8], scope: Scope) -> Type
 
 // A number has the type Int; its four bytes are passed over.
 pub(crate) fn number(img: &[u8], at: usize, work: &mut [u8], scope: Scope) -> Typed
-    requires { Ready img.now work.old at scope.vars scope.locks scope.left × (get_or img.now at 0 ≡ 2) }
-    ensures { Finds img.now work.old work.new at scope.vars scope.locks scope.left (Ok result) }
+    requires { Coded img.now work.old at scope 2 }
+    ensures { FindsUnder img.now work.old work.new at scope (Ok result) }
 {
     work[slot_of(scope.left)] = TypeCode::Int as u8;
     Typed {
@@ -35,8 +35,8 @@ pub(crate) fn number(img: &[u8], at: usize, work: &mut [u8], scope: Scope) -> Ty
 
 // A variable's index counts from the innermost, and its type is raised by the locks that have come since.
 pub(crate) fn variable(img: &[u8], at: usize, work: &mut [u8], scope: Scope) -> Typed
-    requires { Ready img.now work.old at scope.vars scope.locks scope.left × (get_or img.now at 0 ≡ 3) }
-    ensures { Finds img.now work.old work.new at scope.vars scope.locks scope.left (Ok result) }
+    requires { Coded img.now work.old at scope 3 }
+    ensures { FindsUnder img.now work.old work.new at scope (Ok result) }
 {
     let to = slot_of(scope.left);
     let index = img[at + 1];
@@ -52,7 +52,7 @@ pub(crate) fn variable(img: &[u8], at: usize, work: &mut [u8], scope: Scope) -> 
 
 // A function's argument; the place of the body, behind the stated type and the set. They have been read, so nothing is tested again.
 pub(crate) fn argument(img: &[u8], at: usize, work: &mut [u8], scope: Scope) -> usize
-    requires { Ready img.now work.old at scope.vars scope.locks scope.left × (get_or img.now at 0 ≡ 4) }
+    requires { Coded img.now work.old at scope 4 }
     ensures { Entered img.now work.old work.new at scope.vars scope.locks × Starts img.now at scope.vars scope.locks result × Ends img.now (at + 1) (result - 4) }
 {
     let to = var_at(scope.vars);
@@ -64,7 +64,7 @@ pub(crate) fn argument(img: &[u8], at: usize, work: &mut [u8], scope: Scope) -> 
 
 // The variable that is the new lock: it is bound under the lock, and its type is Lock of the innermost name.
 pub(crate) fn new_name(img: &[u8], at: usize, work: &mut [u8], scope: Scope)
-    requires { Ready img.now work.old at scope.vars scope.locks scope.left × (get_or img.now at 0 ≡ 10) }
+    requires { Coded img.now work.old at scope 10 }
     ensures { Entered img.now work.old work.new at scope.vars scope.locks }
 {
     let to = var_at(scope.vars);

@@ -5,11 +5,12 @@ ghost use Rattle.codes.specs.Codes.{type_byte};
 ghost use Rattle.judging.specs.Copies.{Ends};
 ghost use Rattle.judging.specs.Contract.{Some1, AskedIn, Asked, AnswersIn1, Answers1, AnswersAt1, Tests1, Due};
 
-use crate::numbers::{number, only};
+use crate::numbers::only;
 use crate::work::{Typed, slot_of};
 use crate::{copies, shift};
 use answers::Refusal;
 use codes::TypeCode;
+use types::stated::number_at;
 use types::subtype;
 use types::subtype::Mode;
 
@@ -131,8 +132,8 @@ pub(crate) fn first_lam(
     ensures { AnswersIn1 (λ b. b ≡ 4) img.now at part work.old work.new left a.need a.end result }
 {
     let p = part - 4;
-    let set = number(img, p);
-    if a.need & set != a.need {
+    let set = number_at(img, p);
+    if a.need & u64::from(set) != a.need {
         return Err(Refusal::UndeclaredNeed(at));
     }
     let from = slot_of(left - 1);

@@ -1,7 +1,7 @@
 // The judge.
 #![tactic(auto)]
 
-mod numbers; // numbers.rt: four bytes as a number, powers of two and the set of one lock
+mod numbers; // numbers.rt: lock sets as numbers
 mod shift; // shift.rt: raising and lowering the names of a type
 mod copies; // copies.rt: copying a type, and passing over one
 mod work; // work.rt: the places in the work buffer, and what the steps answer

@@ -6,10 +6,11 @@ ghost use Rattle.judging.specs.Work.{slot};
 ghost use Rattle.judging.specs.Contract.{Some2, AskedIn, Asked, Answers2, AnyPart2, TestsIn2, AskedIn3, AnswersIn3, Goes};
 
 use crate::copies;
-use crate::numbers::{less, number, only};
+use crate::numbers::{less, only};
 use crate::work::{Typed, slot_of};
 use answers::Refusal;
 use codes::TypeCode;
+use types::stated::number_at;
 use types::subtype;
 use types::subtype::Mode;
 
@@ -22,10 +23,10 @@ pub(crate) fn second_app(work: &mut [u8], left: u8, a: Typed, b: Typed) -> Resul
     let from = slot_of(left - 1);
     subtype::related(work, from, work, to + 1, Mode::Below).ok_or(Refusal::NotSubtype(a.end))?;
     let p = copies::skip(work, to + 1);
-    let set = number(work, p);
+    let set = number_at(work, p);
     copies::copy(work, p + 4, to);
     Ok(Typed {
-        need: a.need | b.need | set,
+        need: a.need | b.need | u64::from(set),
         ..b
     })
 }
@@ -113,7 +114,7 @@ pub(crate) fn after_third(
     part: usize,
     work: &mut [u8],
     left: u8,
-    kept: u32,
+    kept: u64,
     c: Typed,
 ) -> Result<Typed, Refusal>
     requires { AskedIn3 img.now at work.old left }

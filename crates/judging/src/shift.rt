@@ -5,8 +5,8 @@ ghost use Rattle.judging.specs.Holds.{put};
 ghost use Rattle.judging.specs.Shift.{Raisable, Raises, Lowerable, Lowers, LowerSet, LowerName};
 
 use crate::copies::code_at;
-use crate::numbers::number;
 use codes::TypeCode;
+use types::stated::number_at;
 
 // Four bytes, the highest first.
 pub(crate) fn put4(s: &mut [u8], at: usize, m: u32)
@@ -29,7 +29,7 @@ fn raise_set(s: &mut [u8], at: usize, k: u8)
     requires { (at + 4 ≤ length s.old) × (k ≤ 32) × (word32 s.old at * 2 ^ k < 4294967296) }
     ensures { s.new ≡ put s.old at (word32 s.old at * 2 ^ k) }
 {
-    let m = number(s, at);
+    let m = number_at(s, at);
     put4(s, at, shifted(m, k));
 }
 
@@ -61,7 +61,7 @@ fn lower_set(s: &mut [u8], at: usize) -> Option<()>
     requires { at + 4 ≤ length s.old }
     ensures { LowerSet s.old s.new at result }
 {
-    let m = number(s, at);
+    let m = number_at(s, at);
     if m % 2 == 1 {
         return None;
     }

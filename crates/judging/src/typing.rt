@@ -1,8 +1,8 @@
 // The typing: a function a rule, which calls the judge on the expression's parts from left to right, with what is left of the nesting falling at
 // each call. The code is looked at once, and each rule is called from one place, so that the compiler takes it into the judge. a, b and c are what
-// the parts come to.
-ghost use Rattle.std.specs.Prelude.{◌≡◌, get_or};
-ghost use Rattle.judging.specs.Contract.{Ready, Finds};
+// the parts come to. The rules with two parts differ in the test and in the last step, which are two of their five lines: one function for them, with
+// closures for the two, would be no shorter. What a part stands under is written whole: a struct with ghost facts takes no `..`.
+ghost use Rattle.judging.specs.Contract.{Coded, ReadyUnder, FindsUnder};
 
 use crate::binding::{argument, bind, new_name, number, unit, variable};
 use crate::copies;
@@ -20,8 +20,8 @@ use reading::scope::Scope;
 // The body is under the argument.
 #[cycle(rules)]
 fn function(img: &[u8], at: usize, work: &mut [u8], scope: Scope) -> Result<Typed, Refusal>
-    requires { Ready img.now work.old at scope.vars scope.locks scope.left × (get_or img.now at 0 ≡ 4) }
-    ensures { Finds img.now work.old work.new at scope.vars scope.locks scope.left result }
+    requires { Coded img.now work.old at scope 4 }
+    ensures { FindsUnder img.now work.old work.new at scope result }
 {
     let inner = Scope {
         vars: scope.vars + 1,
@@ -36,8 +36,8 @@ fn function(img: &[u8], at: usize, work: &mut [u8], scope: Scope) -> Result<Type
 // The first part is a Function.
 #[cycle(rules)]
 fn apply(img: &[u8], at: usize, work: &mut [u8], scope: Scope) -> Result<Typed, Refusal>
-    requires { Ready img.now work.old at scope.vars scope.locks scope.left × (get_or img.now at 0 ≡ 5) }
-    ensures { Finds img.now work.old work.new at scope.vars scope.locks scope.left result }
+    requires { Coded img.now work.old at scope 5 }
+    ensures { FindsUnder img.now work.old work.new at scope result }
 {
     let inner = Scope {
         vars: scope.vars,
@@ -53,8 +53,8 @@ fn apply(img: &[u8], at: usize, work: &mut [u8], scope: Scope) -> Result<Typed, 
 // The content stands behind the lock name and the stated type.
 #[cycle(rules)]
 fn new_cell(img: &[u8], at: usize, work: &mut [u8], scope: Scope) -> Result<Typed, Refusal>
-    requires { Ready img.now work.old at scope.vars scope.locks scope.left × (get_or img.now at 0 ≡ 6) }
-    ensures { Finds img.now work.old work.new at scope.vars scope.locks scope.left result }
+    requires { Coded img.now work.old at scope 6 }
+    ensures { FindsUnder img.now work.old work.new at scope result }
 {
     let inner = Scope {
         vars: scope.vars,
@@ -69,8 +69,8 @@ fn new_cell(img: &[u8], at: usize, work: &mut [u8], scope: Scope) -> Result<Type
 // Nothing is kept of the Ref but its content.
 #[cycle(rules)]
 fn read(img: &[u8], at: usize, work: &mut [u8], scope: Scope) -> Result<Typed, Refusal>
-    requires { Ready img.now work.old at scope.vars scope.locks scope.left × (get_or img.now at 0 ≡ 7) }
-    ensures { Finds img.now work.old work.new at scope.vars scope.locks scope.left result }
+    requires { Coded img.now work.old at scope 7 }
+    ensures { FindsUnder img.now work.old work.new at scope result }
 {
     let inner = Scope {
         vars: scope.vars,
@@ -84,8 +84,8 @@ fn read(img: &[u8], at: usize, work: &mut [u8], scope: Scope) -> Result<Typed, R
 // The first part is a Ref.
 #[cycle(rules)]
 fn write(img: &[u8], at: usize, work: &mut [u8], scope: Scope) -> Result<Typed, Refusal>
-    requires { Ready img.now work.old at scope.vars scope.locks scope.left × (get_or img.now at 0 ≡ 8) }
-    ensures { Finds img.now work.old work.new at scope.vars scope.locks scope.left result }
+    requires { Coded img.now work.old at scope 8 }
+    ensures { FindsUnder img.now work.old work.new at scope result }
 {
     let inner = Scope {
         vars: scope.vars,
@@ -101,8 +101,8 @@ fn write(img: &[u8], at: usize, work: &mut [u8], scope: Scope) -> Result<Typed, 
 // The type of the part is of no use: a fork gives Unit.
 #[cycle(rules)]
 fn fork(img: &[u8], at: usize, work: &mut [u8], scope: Scope) -> Result<Typed, Refusal>
-    requires { Ready img.now work.old at scope.vars scope.locks scope.left × (get_or img.now at 0 ≡ 9) }
-    ensures { Finds img.now work.old work.new at scope.vars scope.locks scope.left result }
+    requires { Coded img.now work.old at scope 9 }
+    ensures { FindsUnder img.now work.old work.new at scope result }
 {
     let inner = Scope {
         vars: scope.vars,
@@ -116,8 +116,8 @@ fn fork(img: &[u8], at: usize, work: &mut [u8], scope: Scope) -> Result<Typed, R
 // The body is under the new lock and under the variable that is it.
 #[cycle(rules)]
 fn new_lock(img: &[u8], at: usize, work: &mut [u8], scope: Scope) -> Result<Typed, Refusal>
-    requires { Ready img.now work.old at scope.vars scope.locks scope.left × (get_or img.now at 0 ≡ 10) }
-    ensures { Finds img.now work.old work.new at scope.vars scope.locks scope.left result }
+    requires { Coded img.now work.old at scope 10 }
+    ensures { FindsUnder img.now work.old work.new at scope result }
 {
     new_name(img, at, work, scope);
     let inner = Scope {
@@ -132,8 +132,8 @@ fn new_lock(img: &[u8], at: usize, work: &mut [u8], scope: Scope) -> Result<Type
 // The first part is a Lock.
 #[cycle(rules)]
 fn section(img: &[u8], at: usize, work: &mut [u8], scope: Scope) -> Result<Typed, Refusal>
-    requires { Ready img.now work.old at scope.vars scope.locks scope.left × (get_or img.now at 0 ≡ 11) }
-    ensures { Finds img.now work.old work.new at scope.vars scope.locks scope.left result }
+    requires { Coded img.now work.old at scope 11 }
+    ensures { FindsUnder img.now work.old work.new at scope result }
 {
     let inner = Scope {
         vars: scope.vars,
@@ -149,8 +149,8 @@ fn section(img: &[u8], at: usize, work: &mut [u8], scope: Scope) -> Result<Typed
 // The second part is under the variable that has the first one's type.
 #[cycle(rules)]
 fn let_in(img: &[u8], at: usize, work: &mut [u8], scope: Scope) -> Result<Typed, Refusal>
-    requires { Ready img.now work.old at scope.vars scope.locks scope.left × (get_or img.now at 0 ≡ 12) }
-    ensures { Finds img.now work.old work.new at scope.vars scope.locks scope.left result }
+    requires { Coded img.now work.old at scope 12 }
+    ensures { FindsUnder img.now work.old work.new at scope result }
 {
     let inner = Scope {
         vars: scope.vars,
@@ -175,8 +175,8 @@ fn let_in(img: &[u8], at: usize, work: &mut [u8], scope: Scope) -> Result<Typed,
 // Of the first part only the need is left.
 #[cycle(rules)]
 fn then(img: &[u8], at: usize, work: &mut [u8], scope: Scope) -> Result<Typed, Refusal>
-    requires { Ready img.now work.old at scope.vars scope.locks scope.left × (get_or img.now at 0 ≡ 13) }
-    ensures { Finds img.now work.old work.new at scope.vars scope.locks scope.left result }
+    requires { Coded img.now work.old at scope 13 }
+    ensures { FindsUnder img.now work.old work.new at scope result }
 {
     let inner = Scope {
         vars: scope.vars,
@@ -191,8 +191,8 @@ fn then(img: &[u8], at: usize, work: &mut [u8], scope: Scope) -> Result<Typed, R
 // That the first part is an Int is told before the second is judged.
 #[cycle(rules)]
 fn add(img: &[u8], at: usize, work: &mut [u8], scope: Scope) -> Result<Typed, Refusal>
-    requires { Ready img.now work.old at scope.vars scope.locks scope.left × (get_or img.now at 0 ≡ 14) }
-    ensures { Finds img.now work.old work.new at scope.vars scope.locks scope.left result }
+    requires { Coded img.now work.old at scope 14 }
+    ensures { FindsUnder img.now work.old work.new at scope result }
 {
     let inner = Scope {
         vars: scope.vars,
@@ -208,8 +208,8 @@ fn add(img: &[u8], at: usize, work: &mut [u8], scope: Scope) -> Result<Typed, Re
 // The number and the two branches stand behind the stated type, which both branches are held against.
 #[cycle(rules)]
 fn conditional(img: &[u8], at: usize, work: &mut [u8], scope: Scope) -> Result<Typed, Refusal>
-    requires { Ready img.now work.old at scope.vars scope.locks scope.left × (get_or img.now at 0 ≡ 15) }
-    ensures { Finds img.now work.old work.new at scope.vars scope.locks scope.left result }
+    requires { Coded img.now work.old at scope 15 }
+    ensures { FindsUnder img.now work.old work.new at scope result }
 {
     let inner = Scope {
         vars: scope.vars,
@@ -229,8 +229,8 @@ fn conditional(img: &[u8], at: usize, work: &mut [u8], scope: Scope) -> Result<T
 #[tactic(auto, using(crate::proofs::typing::Rule::code_at))]
 #[cycle(rules)]
 pub(crate) fn judge(img: &[u8], at: usize, work: &mut [u8], scope: Scope) -> Result<Typed, Refusal>
-    requires { Ready img.now work.old at scope.vars scope.locks scope.left }
-    ensures { Finds img.now work.old work.new at scope.vars scope.locks scope.left result }
+    requires { ReadyUnder img.now work.old at scope }
+    ensures { FindsUnder img.now work.old work.new at scope result }
 {
     match ExpCode::try_from(img[at]) {
         Ok(ExpCode::Unit) => Ok(unit(img, at, work, scope)),

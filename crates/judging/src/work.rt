@@ -2,11 +2,12 @@
 ghost use Rattle.std.specs.Prelude.{◌≡◌, ◌*◌, ◌≤◌};
 ghost use Rattle.judging.specs.Work.{slot};
 
-// What an expression comes to: the place after it and its need. Its type stands in the slot of the call.
+// What an expression comes to: the place after it and its need. Its type stands in the slot of the call. The need is a set of 32 locks, and has 64 bits
+// so that an answer is whole words: of 32 bits it would be stored in halves and loaded whole, which costs 8 in a hundred of the judge's time.
 #[derive(Clone, Copy)]
 pub(crate) struct Typed {
     pub(crate) end: usize,
-    pub(crate) need: u32,
+    pub(crate) need: u64,
 }
 
 // Where the type of a call with `left` left stands.

@@ -1,7 +1,6 @@
 -- Copying, byte by byte, and what a copy holds; and the end of a type, by its code.
 use mathlib.Core.Path.{◌≡◌, refl, ap, ◌∙◌}
 use mathlib.Core.List.{List, ◌++◌}
-use mathlib.Core.Logic.{⊎_elim}
 use Prim.Native.Nat.{ℕ, ◌+◌, ◌-◌, ◌≤◌, ◌<◌}
 use native.Mathlib.Omega.{arith}
 use native.Mathlib.Nat.{add-zero}
@@ -11,7 +10,7 @@ use lib.ListN.{length, get_or, set, take, drop, length-set, length-append, lengt
 use lib.Seq.{get_or-set_same, get_or-set_other, get_or-append-add, get_or-take, get_or-drop, length-take-le}
 use Rattle.paper.specs.Types.{Ty, unit, int, lock, ref, fun, ty_size}
 use Rattle.types.specs.Holds.{Holds, Byte, Four}
-use Rattle.judging.proofs.Held.{held, holds_end, by_lock, by_leaf, kept_wider, kept_then, kept_refl, kept_set}
+use Rattle.judging.proofs.Held.{held, holds_end, by_lock, by_leaf, kept_wider, kept_set}
 use Rattle.judging.specs.Copies.{Copied, Movable, Moved, Some, Ends}
 
 -- ys, a part of s, is written over a part of w

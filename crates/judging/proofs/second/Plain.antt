@@ -1,5 +1,5 @@
 -- The steps after the second part of a section and of an addition.
-use mathlib.Core.Path.{◌≡◌, refl, ◌∙◌, subst}
+use mathlib.Core.Path.{◌≡◌, refl, ap, ◌∙◌, subst}
 use mathlib.Core.List.{List}
 use Prim.Native.Nat.{ℕ, ◌+◌, ◌-◌, ◌^◌, ◌<◌, ◌≤◌}
 use native.Mathlib.Omega.{arith}
@@ -16,7 +16,7 @@ use Rattle.judging.specs.Rules.{Judged, typed, refused, as_lock, as_int}
 use Rattle.std.specs.Prelude.{Err}
 use Rattle.answers.specs.declared.Refusal.TheVariants.{OtherForm}
 use Rattle.judging.specs.Answer.{gives}
-use Rattle.judging.proofs.Gone.{gone, two_needs, less_small}
+use Rattle.judging.proofs.Gone.{small, gone, two_needs, less_small}
 use Rattle.judging.specs.Phases.{parts_of, after1, after2}
 use Rattle.judging.specs.Work.{slot, InSlot}
 use Rattle.judging.specs.Contract.{Out, Given, Second, Some2, place2, Kept1}
@@ -74,20 +74,20 @@ module _ {img w : List ℕ} {at n left : ℕ} (O : Some2 img w at n left) where
       go k (is_lock a) I = omega (arith, I.there.1.1, I.within, O.2.few)
 
   module _ {part m need next : ℕ} where
-    pub sync_second : (w' : List ℕ) → get_or img at 0 ≡ 11 → Moved w w' (slot (left - 1)) (slot left) → Second img w w' at n left part m need next (gives next (bit_or m (less need (single (get_or w (slot left + 1) 0)))))
+    pub sync_second : (w' : List ℕ) (l : ℕ) → (need < 2 ^ 32 → l ≡ less need (single (get_or w (slot left + 1) 0))) → get_or img at 0 ≡ 11 → Moved w w' (slot (left - 1)) (slot left) → Second img w w' at n left part m need next (gives next (bit_or m l))
     unfolding after2 as_lock
-    sync_second w' e c =
+    sync_second w' l f e c =
         let F = facts in
         record {
           kept = c.kept;
           says = λ v x G pl k K I sm u J su. go v x G k (kept_lock x k m (coded v x G ∙ e) K) I sm u J su;
         }
       where
-        go : (v : ℕ) (x : Exp) → Given img w at v n left x → (k : Ty) → IsLock k → InSlot w left n k → m < 2 ^ n → (u : Ty) → InSlot w (left - 1) n u → need < 2 ^ n → Out w' left n next (after2 x k m u need) (gives next (bit_or m (less need (single (get_or w (slot left + 1) 0)))))
+        go : (v : ℕ) (x : Exp) → Given img w at v n left x → (k : Ty) → IsLock k → InSlot w left n k → m < 2 ^ n → (u : Ty) → InSlot w (left - 1) n u → need < 2 ^ n → Out w' left n next (after2 x k m u need) (gives next (bit_or m l))
         go v x G k (is_lock a) I sm u J su =
             let F = facts in
-            let z : get_or w (slot left + 1) 0 ≡ a = I.there.1.1 in
-            by_sync (λ x. Out w' left n next (after2 x (lock a) m u need) (gives next (bit_or m (less need (single (get_or w (slot left + 1) 0)))))) x (coded v x G ∙ e)
+            let z : l ≡ less need (single a) = f (small n need G.few su) ∙ ap (λ (i : ℕ). less need (single i)) I.there.1.1 in
+            by_sync (λ x. Out w' left n next (after2 x (lock a) m u need) (gives next (bit_or m l))) x (coded v x G ∙ e)
             (λ p₀ a₀ c₀. let sl = less_small n need (single a) G.few su in rw z (gone n (bit_or m (less need (single a))) (union m (less need (single a))) (InSlot w' left n u) (two_needs n m (less need (single a)) G.few sm sl) (or_lt n m (less need (single a)) sm sl) (slot_moved w w' left n u c J)))
 
     pub add_stop : get_or img at 0 ≡ 14 → (get_or w (slot (left - 1)) 0 ≡ 33 → ⊥) → Second img w w at n left part m need next (Err (OtherForm part))

@@ -2,9 +2,9 @@
 use mathlib.Core.Path.{◌≡◌, refl, ap, sym, ◌∙◌}
 use mathlib.Core.List.{List}
 use mathlib.Core.Logic.{inl, inr}
-use Prim.Native.Nat.{ℕ, zero, suc, ◌+◌, ◌-◌, ◌<◌}
+use Prim.Native.Nat.{ℕ, ◌+◌, ◌-◌, ◌<◌}
 use native.Mathlib.Omega.{arith}
-use native.Mathlib.Nat.{add-zero, le_antisymm}
+use native.Mathlib.Nat.{add-zero}
 use lib.Bits.{bit_or}
 use lib.ListN.{get_or}
 use Rattle.reading.specs.Walk.{parts, binds1, locks1}

@@ -8,11 +8,8 @@ use Rattle.judging.proofs.first.first_lam.Goals as goal
 pub overflow_sub-p : goal.overflow_sub-p
 overflow_sub-p c = omega (arith, lam_room c.requires.asked_in.1 c.requires.asked_in.2 _ c.requires.ends)
 
-pub number-set-requires : goal.number-set-requires
-number-set-requires c = (lam_room c.requires.asked_in.1 c.requires.asked_in.2 _ c.requires.ends).1
-
-pub returns-then-a-set : goal.returns-then-a-set
-returns-then-a-set c = λ n O e. lam_13 O e c.requires.ends (rw c.number-set.ensures at c.if-a-set.true)
+pub returns-then-a-from : goal.returns-then-a-from
+returns-then-a-from c = λ n O e. lam_13 O e c.requires.ends (rw (c.from.ensures, c.number_at-set.ensures) at c.if-a-from.true)
 
 pub overflow_sub-left : goal.overflow_sub-left
 overflow_sub-left c = (facts c.requires.asked_in.1).0
@@ -33,7 +30,7 @@ pub overflow_add-size-2 : goal.overflow_add-size-2
 overflow_add-size-2 c = let y = lam_room c.requires.asked_in.1 c.requires.asked_in.2 _ c.requires.ends in let x = res_room c.requires.asked_in.1 c.requires.asked_in.2 c.skip-q.result (rw c.slot_of-from.ensures at c.skip-q.ensures) in omega (arith, c.well_formed)
 
 pub returns-then-size-rest-gt251 : goal.returns-then-size-rest-gt251
-returns-then-size-rest-gt251 c = λ n O e. lam_10 O e c.requires.ends (rw c.number-set.ensures at c.if-a-set.false) (rw c.slot_of-from.ensures at c.skip-q.ensures) (rw c.slot_of-from.ensures at c.if-size-rest-gt251.true)
+returns-then-size-rest-gt251 c = λ n O e. lam_10 O e c.requires.ends (rw (c.from.ensures, c.number_at-set.ensures) at c.if-a-from.false) (rw c.slot_of-from.ensures at c.skip-q.ensures) (rw c.slot_of-from.ensures at c.if-size-rest-gt251.true)
 
 pub overflow_add-at : goal.overflow_add-at
 overflow_add-at c = omega (arith, facts c.requires.asked_in.1)
@@ -42,4 +39,4 @@ pub copy_in-requires : goal.copy_in-requires
 copy_in-requires c = let y = lam_room c.requires.asked_in.1 c.requires.asked_in.2 _ c.requires.ends in (omega arith, omega (arith, c.if-size-rest-gt251.false))
 
 pub returns : goal.returns
-returns c = λ n O e. lam_go O e c.requires.ends (rw c.number-set.ensures at c.if-a-set.false) (rw c.slot_of-from.ensures at c.skip-q.ensures) _ c.copy_in.new.w _ _ (rw c.slot_of-from.ensures at c.if-size-rest-gt251.false) refl (omega arith, refl) c.copy_in.ensures (rw (c.put4.ensures, c.number-set.ensures, c.slot_of-from.ensures) at c.copy_in-2.ensures) (rw (c.slot_of.ensures, c.slot_of-from.ensures) at c.copy_in-3.ensures)
+returns c = λ n O e. lam_go O e c.requires.ends (rw (c.from.ensures, c.number_at-set.ensures) at c.if-a-from.false) (rw c.slot_of-from.ensures at c.skip-q.ensures) _ c.copy_in.new.w _ _ (rw c.slot_of-from.ensures at c.if-size-rest-gt251.false) refl (omega arith, refl) c.copy_in.ensures (rw (c.put4.ensures, c.number_at-set.ensures, c.slot_of-from.ensures) at c.copy_in-2.ensures) (rw (c.slot_of.ensures, c.slot_of-from.ensures) at c.copy_in-3.ensures)

@@ -6,4 +6,4 @@ use Rattle.judging.proofs.Gone.{just_small}
 use Rattle.judging.proofs.numbers.less.Goals as goal
 
 pub returns : goal.returns
-returns c = rw c.only.ensures (sym (less_and c.args.m (single c.args.k) c.ranges.m.fits (just_small 32 c.args.k c.requires)))
+returns c = λ h. rw c.only.ensures (sym (less_and c.args.m (single c.args.k) h (just_small 32 c.args.k c.requires)))

@@ -11,9 +11,6 @@ overflow_sub-left c = (facts c.requires.2.1).0
 pub skip-p-requires : goal.skip-p-requires
 skip-p-requires c = rw c.slot_of-to.ensures (arg_there c.requires.2.1 c.requires.2.2)
 
-pub number-set-requires : goal.number-set-requires
-number-set-requires c = (set_there c.requires.2.1 c.requires.2.2 _ (rw c.slot_of-to.ensures at c.skip-p.ensures)).0
-
 pub overflow_add-p : goal.overflow_add-p
 overflow_add-p c = omega (arith, set_there c.requires.2.1 c.requires.2.2 c.skip-p.result (rw c.slot_of-to.ensures at c.skip-p.ensures))
 
@@ -24,4 +21,4 @@ pub returns-in_err-ok_or : goal.returns-in_err-ok_or
 returns-in_err-ok_or c = let h = missing _ _ _ c.ok_or.ensures.value c.in_err-ok_or.was c.from_residual.ensures in λ img at n O e. rw h.1 (app_stop O e (rw (c.slot_of-to.ensures, c.slot_of-from.ensures) at c.related.ensures) h.0)
 
 pub returns : goal.returns
-returns c = λ img at n O e. rw c.number-set.ensures (app_go O e (rw (c.slot_of-to.ensures, c.slot_of-from.ensures) at c.related.ensures) _ _ _ (a_value _ _ c.ok_or.ensures.value c.in_ok-ok_or.was) (rw c.slot_of-to.ensures at c.skip-p.ensures) (rw c.slot_of-to.ensures at c.copy.ensures))
+returns c = λ img at n O e. rw (c.from.ensures, c.number_at-set.ensures) (app_go O e (rw (c.slot_of-to.ensures, c.slot_of-from.ensures) at c.related.ensures) _ _ _ (a_value _ _ c.ok_or.ensures.value c.in_ok-ok_or.was) (rw c.slot_of-to.ensures at c.skip-p.ensures) (rw c.slot_of-to.ensures at c.copy.ensures))

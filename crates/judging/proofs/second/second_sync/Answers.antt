@@ -12,4 +12,4 @@ pub less-requires : goal.less-requires
 less-requires c = rw c.slot_of-to.ensures (sync_name c.requires.2.1 c.requires.2.2)
 
 pub returns : goal.returns
-returns c = λ part img at n O e. rw (c.less.ensures, c.slot_of-to.ensures) (sync_second O _ e (rw (c.slot_of.ensures, c.slot_of-to.ensures) at c.copy.ensures))
+returns c = λ part img at n O e. sync_second O _ _ (rw c.slot_of-to.ensures at c.less.ensures) e (rw (c.slot_of.ensures, c.slot_of-to.ensures) at c.copy.ensures)

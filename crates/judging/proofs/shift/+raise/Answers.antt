@@ -2,7 +2,6 @@
 use Rattle.judging.proofs.shift.Laws.{less, past, able_here, able_lock, able_ref, able_inner, able_arg, able_set, able_result, leaf, name, inner, whole}
 use lib.ListN.{length, length-set}
 use Prim.Native.Nat.{◌+◌}
-use borrow.Author.Rules.{rules}
 use native.Mathlib.Omega.{arith}
 use mathlib.Core.Path.{refl, ◌∙◌}
 use Rattle.judging.proofs.copies.Codes.{byte_of, is_leaf}

@@ -4,16 +4,14 @@ use mathlib.Core.Path.{refl}
 use native.Mathlib.Nat.{pos_of_ne-zero}
 use native.Mathlib.Omega.{arith}
 use Rattle.judging.specs.Contract.{due14, due5, due15, due11, due8}
-use Rattle.judging.proofs.typing.One.{less_left, inside, some_left, ready_1, refused_1, some_1, other_1, due_1, ends_1}
-use Rattle.judging.proofs.typing.Two.{ready_2, refused_2, some_2, ends_2, other_2, fits_2}
+use Rattle.judging.proofs.typing.One.{less_left, inside, some_left, ready_1, refused_1, some_1, other_1, ends_1}
+use Rattle.judging.proofs.typing.Two.{ready_2, refused_2, some_2, ends_2, other_2}
 use Rattle.judging.proofs.typing.Rule.{is_add, parts_are, beside, second_due, if_second_due, if_third_due, is_apply, behind_type, is_fork, under_argument, one_part, some_code, behind_name, under_lock, is_read, is_section, is_write}
 use Rattle.judging.proofs.binding.Start.{own_read, start_if, start_cell}
 use Rattle.judging.proofs.typing.Three.{ready_3, refused_3, some_3, ends_3}
 use Rattle.reading.specs.Walk.{parts}
-use borrow.Author.Rules.{rules}
 use mathlib.Core.Logic.{inl, inr}
 use Rattle.judging.proofs.typing.Halves.{let_binds, chain_ready_1, chain_refused_1, bindable, chain_ready_2, chain_refused_2, chain_movable, chain_done, then_binds, then_bound}
-use Rattle.judging.proofs.copies.Laws.{end_here}
 use Rattle.judging.proofs.Refused.{handed_on}
 use Rattle.judging.proofs.typing.+rules.Goals as goal
 
