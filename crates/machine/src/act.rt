@@ -17,8 +17,7 @@ pub(crate) enum Also {
     NewThread(u8),
 }
 
-// What the part at the place of evaluation does: what the step answers, how many bytes the part becomes (or one more than there is room for),
-// and what else changes.
+// What the part at the place of evaluation does: what the step answers, how many bytes the part becomes, and what else changes.
 #[derive(Clone, Copy)]
 pub(crate) struct Goes {
     pub made: Made,
@@ -26,13 +25,19 @@ pub(crate) struct Goes {
     pub also: Also,
 }
 
-// The answer of a kind of step that is made.
-pub(crate) fn goes_on(kind: Kind, number: usize, size: usize, also: Also) -> Result<Goes, NoStep>
+// The answer of a kind of step that is made, where there is room for what the part becomes. Whoever calls has refused all else before.
+#[tactic(auto, unfolding(crate::specs::Means::going))]
+pub(crate) fn goes_on(
+    kind: Kind,
+    number: usize,
+    size: Option<usize>,
+    also: Also,
+) -> Result<Goes, NoStep>
     ensures { result ≡ going kind number size also }
 {
     Ok(Goes {
         made: Made { kind, number },
-        size,
+        size: size.ok_or(NoStep::TooLong)?,
         also,
     })
 }
