@@ -1,5 +1,5 @@
 -- What the trial prints of an image behind the judge's line: the steps of the run, why it was not loaded, or nothing.
-use Rattle.std.specs.Prelude.{◌≡◌, true, List, [], ◌∷◌, ◌++◌, ℕ, ◌+◌, ◌*◌, ◌<◌, ◌≤◌, length, take, Ok, Err}
+use Rattle.std.specs.Prelude.{◌≡◌, true, List, [], ◌∷◌, ◌++◌, ℕ, ◌+◌, ◌*◌, ◌<◌, ◌≤◌, length, take, Option, Some, IsSome, Ok, Err}
 use Rattle.std.proofs.Math.Path.{refl, ap, ap₂}
 use Rattle.std.proofs.Common.{sym, ◌∙◌, subst, append_assoc, arith, length-append, le-ltb}
 use Rattle.paper.specs.Verdict.{Out, ok, refused}
@@ -13,7 +13,7 @@ use Rattle.laws.specs.RunLaws.{laid_buffer}
 use Rattle.answers.specs.declared.Refusal.{Refusal}
 use Rattle.answers.specs.Numbers.{number, place}
 use Rattle.loads.specs.Contract.{Answer, RawLoads}
-use Rattle.trial_texts.specs.Put.{Put, put_none, written_put}
+use Rattle.trial_texts.specs.Put.{Room, Put, put_none, put_some, written_put}
 use Rattle.writing.specs.Written.{Written}
 use Rattle.writing.specs.Digits.{decimal_length}
 use Rattle.trial_texts.specs.Lines.{load_line}
@@ -141,17 +141,26 @@ module _ (image schedule : List ℕ) where
           beyond = subst (Beyond s) (sym r.1) (beyond_same s);
         }
 
-    pub load_refused : {s' out' : List ℕ} {e : Refusal} {n end : ℕ} → RawLoads image s (Err e) s' → n ≡ number e → 10 ≤ n → Written (take at out ++ load_line n) out out' end
-        → LoadPrints image schedule s out at s' out' end
-    load_refused {s'} {out'} {e} {n} {end} a same h v =
-        let r = not_loaded a in
-        let f = raw_refusal image r.0 in
-        let m = refusal_most image f in
-        let k = w.space in
-        let l : length (load_line n) ≤ 8 = omega (arith, decimal_length 1 n (omega arith), length-append (decimal n) (0x0A ∷ [])) in
-        let q : Put out out' at (load_line n) end = written_put (omega arith) v in
-        record {
-          text = subst (λ (x : List ℕ). Put out out' at x end) (sym (behind_long image schedule f (rw (← same) h) ∙ load_no n (place e) (r.0 ∙ ap (λ (k : ℕ). refused k (place e)) (sym same)))) q;
-          inside = let z = q.end in omega arith;
-          beyond = subst (Beyond s) (sym r.1) (beyond_same s);
-        }
+    module _ {s' out' : List ℕ} {e : Refusal} {n : ℕ} {o : Option ℕ} (a : RawLoads image s (Err e) s') (same : n ≡ number e)
+        (v : Written (take at out ++ load_line n) out out' o) where
+      load_room : Room out at (load_line n)
+      load_room =
+          let m = refusal_most image (raw_refusal image (not_loaded a).0) in
+          let k = w.space in
+          let l : length (load_line n) ≤ 8 = omega (arith, decimal_length 1 n (omega arith), length-append (decimal n) (0x0A ∷ [])) in
+          omega arith
+
+      pub load_some : IsSome o
+      load_some = put_some out at _ load_room v
+
+      pub load_refused : {end : ℕ} → o ≡ Some end → 10 ≤ n → LoadPrints image schedule s out at s' out' end
+      load_refused {end} t h =
+          let r = not_loaded a in
+          let f = raw_refusal image r.0 in
+          let q : Put out out' at (load_line n) end = written_put load_room v t in
+          let g = load_room in
+          record {
+            text = subst (λ (x : List ℕ). Put out out' at x end) (sym (behind_long image schedule f (rw (← same) h) ∙ load_no n (place e) (r.0 ∙ ap (λ (k : ℕ). refused k (place e)) (sym same)))) q;
+            inside = let z = q.end in omega arith;
+            beyond = subst (Beyond s) (sym r.1) (beyond_same s);
+          }

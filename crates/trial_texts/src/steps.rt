@@ -19,7 +19,7 @@ fn after_step(state: &[u8], out: &mut [u8], at: usize) -> ControlFlow<usize, usi
 {
     match race(state) {
         Ok(Some(pair)) => {
-            let end = race_line(pair.first, pair.second, pair.cell, out, at);
+            let end = race_line(pair.first, pair.second, pair.cell, out, at).unwrap();
             ControlFlow::Break(end)
         }
         Ok(None) => ControlFlow::Continue(at),
@@ -41,7 +41,7 @@ fn step_line(
         return None;
     };
     let kind = u64::from(made.kind.number());
-    let next = three(thread, kind, made.number as u64, out, at);
+    let next = three(thread, kind, made.number as u64, out, at).unwrap();
     Some(after_step(state, out, next))
 }
 
