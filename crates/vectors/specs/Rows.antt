@@ -9,7 +9,8 @@ use Rattle.paper.specs.Calls.{RaceCall}
 use Rattle.paper.specs.Cases.{told, told_race, DefaultTold, told_default}
 use Rattle.paper.specs.Lister as paper
 use Rattle.paper.specs.Lister.{next, end, bad}
-use Rattle.answers.specs.Said as answers
+use Rattle.answers.specs.Numbers as answers
+use Rattle.answers.specs.Said.{said}
 use Rattle.answers.specs.declared.Refusal.{Refusal}
 use Rattle.machine.specs.Answer.{Step}
 use Rattle.machine.specs.Answering as machine
@@ -23,19 +24,23 @@ use Rattle.texts.specs.JudgeText as texts
 use Rattle.vectors.specs.declared.rows.Row.{Row}
 use Rattle.vectors.specs.declared.rows.Row.TheVariants.{Alone, One, Two, Three}
 
+-- `answer place`
+abbrev pub refusal_row : Refusal → Row
+refusal_row e = One (answers.number e) (answers.place e)
+
 -- of the judge: `answer place`, and for 0 the type's size
 abbrev pub out_row : Out ℕ → Row
 out_row o = elim o [ ok n ↦ One done n | refused k p ↦ One k p ]
 
 abbrev pub judge_row : Result ℕ Refusal → Row
-judge_row r = out_row (answers.said r)
+judge_row r = out_row (said r)
 
 -- of a load: `answer place`
 abbrev pub loaded_row : Out (Unit {0}) → Row
 loaded_row o = elim o [ ok n ↦ One done 0 | refused k p ↦ One k p ]
 
 abbrev pub load_row : Result (Unit {0}) Refusal → Row
-load_row r = loaded_row (answers.said r)
+load_row r = loaded_row (said r)
 
 -- `answer kind number`
 abbrev pub answer_row : Answer → Row

@@ -1,7 +1,7 @@
 // An answer as the numbers that a line has for it, and the comparison with those that are due.
 ghost use Rattle.std.specs.Prelude.{◌≡◌};
 ghost use Rattle.vectors.specs.Due.{Exactly};
-ghost use Rattle.vectors.specs.Rows.{judge_row, load_row, step_row, race_row, ran_row, default_row, item_row, text_row, RowAsDue};
+ghost use Rattle.vectors.specs.Rows.{refusal_row, judge_row, load_row, step_row, race_row, ran_row, default_row, item_row, text_row, RowAsDue};
 
 use answers::Refusal;
 use lister::Item;
@@ -21,12 +21,18 @@ pub(crate) enum Row {
     Three(usize, usize, usize, usize),
 }
 
+fn refusal_row(refusal: Refusal) -> Row
+    ensures { result ≡ refusal_row refusal }
+{
+    Row::One(usize::from(refusal.number()), refusal.place())
+}
+
 pub(crate) fn judge_row(verdict: Result<usize, Refusal>) -> Row
     ensures { result ≡ judge_row verdict }
 {
     match verdict {
         Ok(size) => Row::One(0, size),
-        Err(refusal) => Row::One(usize::from(refusal.number()), refusal.place()),
+        Err(refusal) => refusal_row(refusal),
     }
 }
 
@@ -35,7 +41,7 @@ pub(crate) fn load_row(loaded: Result<(), Refusal>) -> Row
 {
     match loaded {
         Ok(()) => Row::One(0, 0),
-        Err(refusal) => Row::One(usize::from(refusal.number()), refusal.place()),
+        Err(refusal) => refusal_row(refusal),
     }
 }
 
@@ -85,7 +91,7 @@ pub(crate) fn item_row(item: Result<Option<Item>, Refusal>) -> Row
     match item {
         Ok(Some(item)) => Row::Three(0, usize::from(u8::from(item.code)), item.place, item.next),
         Ok(None) => Row::Alone(0),
-        Err(refusal) => Row::One(usize::from(refusal.number()), refusal.place()),
+        Err(refusal) => refusal_row(refusal),
     }
 }
 

@@ -28,7 +28,12 @@ pub(crate) fn scheduled(line: &[u8]) -> Outcome {
         return Outcome::Unreadable;
     };
     let schedule = due::first(&buffer, n);
-    compared(field(fields), past_four(fields), |state| run_row(run(state, schedule)), due)
+    compared(
+        field(fields),
+        past_four(fields),
+        |state| run_row(run(state, schedule)),
+        due,
+    )
 }
 
 pub(crate) fn by_default(line: &[u8]) -> Outcome {
@@ -36,5 +41,10 @@ pub(crate) fn by_default(line: &[u8]) -> Outcome {
     let Some((limit, due)) = read_limit(rest(fields)) else {
         return Outcome::Unreadable;
     };
-    compared(field(fields), past_four(fields), |state| default_row(default_run(state, limit)), due)
+    compared(
+        field(fields),
+        past_four(fields),
+        |state| default_row(default_run(state, limit)),
+        due,
+    )
 }

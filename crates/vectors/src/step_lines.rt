@@ -17,5 +17,10 @@ pub(crate) fn stepped(line: &[u8]) -> Outcome {
         return Outcome::Unreadable;
     };
     let last = rest(past_four(fields));
-    compared(field(fields), last, |state| step_row(step(state, thread)), due)
+    compared(
+        field(fields),
+        last,
+        |state| step_row(step(state, thread)),
+        due,
+    )
 }
