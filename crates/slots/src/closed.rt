@@ -3,7 +3,7 @@ ghost use Rattle.std.specs.Prelude.{◌≡◌, length};
 ghost use Rattle.slots.specs.Answer.{one_more};
 ghost use Rattle.slots.specs.Closed.{field_ok, closed_count, Closed};
 
-use crate::codes::{CELL, LOCK, OPEN, VARIABLE, byte, is_code, opening, width};
+use crate::codes::{CELL, LOCK, OPEN, VARIABLE, byte, is_code, is_open, width};
 use crate::sections::Counts;
 use crate::stack::{Part, after, pushes};
 use zeros::clear;
@@ -47,7 +47,7 @@ fn pass(s: &[u8], counts: Counts, stack: &mut [u8]) -> Option<usize>
         if stack.len() - part.sp < pushes(c) {
             return None;
         }
-        n += opening(c);
+        n += usize::from(is_open(c));
         next = after(stack, part, c);
         i += w;
     }

@@ -10,7 +10,7 @@ use crate::codes::{OPEN, byte, value};
 use crate::way::onward;
 
 // How many locks and cells there are: a location is below its count.
-#[derive(Clone, Copy)]
+#[derive(Clone, Copy, Debug, PartialEq, Eq)]
 pub struct Counts {
     pub locks: usize,
     pub cells: usize,

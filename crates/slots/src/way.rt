@@ -10,7 +10,7 @@ use crate::walk::skip;
 
 // How far evaluation goes: a place, and where the second part of the code there begins, if both its parts are values and evaluation goes into
 // both. To see that the second is a value the first was passed over, and nobody need do so again.
-#[derive(Clone, Copy)]
+#[derive(Clone, Copy, Debug, PartialEq, Eq)]
 pub struct Reached {
     pub at: usize,
     pub second: Option<usize>,

@@ -55,7 +55,7 @@ loop-next-preserved c =
     (sym c.if-not-field_ok.ensures) (c.width-w.result - 1)
     (omega (arith, c.width-w.ensures.says)) _ (omega arith) (omega arith)
     (omega (arith, c.pushes.ensures, c.if-stack-part.false, l.long, l.top))
-    c.opening-n.result c.opening-n.ensures.says c.after-next.auto.stack c.after-next.ensures
+    c.from-n.result (c.from-n.ensures ∙ c.is_open.ensures) c.after-next.auto.stack c.after-next.ensures
 
 pub returns-then-i-s : goal.returns-then-i-s
 returns-then-i-s c = passing_over (passing_past c.loop-next.invariant c.in_default.is) c.if-i-s.true refl
