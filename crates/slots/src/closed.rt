@@ -3,9 +3,10 @@ ghost use Rattle.std.specs.Prelude.{◌≡◌, length};
 ghost use Rattle.slots.specs.Answer.{one_more};
 ghost use Rattle.slots.specs.Closed.{field_ok, closed_count, Closed};
 
-use crate::codes::{CELL, LOCK, OPEN, VARIABLE, byte, is_code, is_open, width};
+use crate::codes::{CELL, LOCK, OPEN, VARIABLE, is_code, is_open, width};
 use crate::sections::Counts;
 use crate::stack::{Part, after, pushes};
+use places::byte_at;
 use zeros::clear;
 
 // Whether b can stand after the code c: a variable is bound, a lock and a cell are below their counts.
@@ -37,7 +38,7 @@ fn pass(s: &[u8], counts: Counts, stack: &mut [u8]) -> Option<usize>
         if !is_code(c) {
             return None;
         }
-        if !field_ok(counts, c, usize::from(byte(s, i + 1)), part.d) {
+        if !field_ok(counts, c, usize::from(byte_at(s, i + 1)), part.d) {
             return None;
         }
         let w = width(c);

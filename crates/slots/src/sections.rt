@@ -6,8 +6,9 @@ ghost use Rattle.slots.specs.Sections.{open_at, opens_of, Claimed};
 ghost use Rattle.slots.specs.Slot.{ThreadSlot, CellSlot};
 
 use crate::closed::closed;
-use crate::codes::{OPEN, byte, value};
+use crate::codes::{OPEN, value};
 use crate::way::onward;
+use places::byte_at;
 
 // How many locks and cells there are: a location is below its count.
 #[derive(Clone, Copy, Debug, PartialEq, Eq)]
@@ -21,11 +22,11 @@ fn claim(s: &[u8], p: usize, marks: &mut [u8]) -> Option<usize>
     requires { p ≤ length s.now }
     ensures { Claimed marks.old (open_at s.now p) marks.new (one_more result) }
 {
-    if byte(s, p) != OPEN {
+    if byte_at(s, p) != OPEN {
         return Some(0);
     }
-    let l = usize::from(byte(s, p + 1));
-    if byte(marks, l) != 1 {
+    let l = usize::from(byte_at(s, p + 1));
+    if byte_at(marks, l) != 1 {
         return None;
     }
     marks[l] = 0;

@@ -5,8 +5,9 @@ ghost use Rattle.slots.specs.Answer.{one_more};
 ghost use Rattle.slots.specs.Way.{cell_from, aim_at, aim_number, Place, Aim};
 ghost use Rattle.slots.specs.WayLoop.{Onward};
 
-use crate::codes::{CELL, READ, WRITE, byte, goes_first, goes_second, value, width};
+use crate::codes::{CELL, READ, WRITE, goes_first, goes_second, value, width};
 use crate::walk::skip;
+use places::byte_at;
 
 // How far evaluation goes: a place, and where the second part of the code there begins, if both its parts are values and evaluation goes into
 // both. To see that the second is a value the first was passed over, and nobody need do so again.
@@ -79,10 +80,10 @@ fn cell_from(s: &[u8], p: usize) -> Option<u8>
     requires { p ≤ length s.now + 1 }
     ensures { Told (aim_number (cell_from s.now p)) 256 (one_more result) }
 {
-    if byte(s, p) != CELL {
+    if byte_at(s, p) != CELL {
         return None;
     }
-    Some(byte(s, p + 1))
+    Some(byte_at(s, p + 1))
 }
 
 // The cell that the code at p reads or writes, if it does.
@@ -90,7 +91,7 @@ fn aim_at(s: &[u8], p: usize) -> Option<u8>
     requires { p ≤ length s.now }
     ensures { Told (aim_number (aim_at s.now p)) 256 (one_more result) }
 {
-    let c = byte(s, p);
+    let c = byte_at(s, p);
     if c == READ || c == WRITE {
         return cell_from(s, p + 1);
     }

@@ -22,20 +22,20 @@ returns-then-not-is_code c =
 pub returns-then-not-field_ok : goal.returns-then-not-field_ok
 returns-then-not-field_ok c =
     passing_unbound (passing_part c.loop-next.invariant c.in-Some.is) c.if-s-i.false refl
-    (sym c.if-not-is_code.ensures) c.from.result (c.from.ensures ∙ c.byte.ensures)
+    (sym c.if-not-is_code.ensures) c.from.result (c.from.ensures ∙ c.byte_at.ensures)
     (sym c.if-not-field_ok.ensures)
 
 pub returns-then-s-i-2 : goal.returns-then-s-i-2
 returns-then-s-i-2 c =
     passing_cut (passing_part c.loop-next.invariant c.in-Some.is) c.if-s-i.false refl
-    (sym c.if-not-is_code.ensures) c.from.result (c.from.ensures ∙ c.byte.ensures)
+    (sym c.if-not-is_code.ensures) c.from.result (c.from.ensures ∙ c.byte_at.ensures)
     (sym c.if-not-field_ok.ensures) (c.width-w.result - 1)
     (omega (arith, c.width-w.ensures.says)) (omega arith)
 
 pub returns-then-stack-part : goal.returns-then-stack-part
 returns-then-stack-part c =
     passing_full (passing_part c.loop-next.invariant c.in-Some.is) c.if-s-i.false refl
-    (sym c.if-not-is_code.ensures) c.from.result (c.from.ensures ∙ c.byte.ensures)
+    (sym c.if-not-is_code.ensures) c.from.result (c.from.ensures ∙ c.byte_at.ensures)
     (sym c.if-not-field_ok.ensures) (c.width-w.result - 1)
     (omega (arith, c.width-w.ensures.says)) (omega (arith, c.pushes.ensures, c.if-stack-part.true))
 
@@ -51,7 +51,7 @@ pub loop-next-preserved : goal.loop-next-preserved
 loop-next-preserved c =
     let l = passing_part c.loop-next.invariant c.in-Some.is in
     passing_on l c.if-s-i.false refl
-    (sym c.if-not-is_code.ensures) c.from.result (c.from.ensures ∙ c.byte.ensures)
+    (sym c.if-not-is_code.ensures) c.from.result (c.from.ensures ∙ c.byte_at.ensures)
     (sym c.if-not-field_ok.ensures) (c.width-w.result - 1)
     (omega (arith, c.width-w.ensures.says)) _ (omega arith) (omega arith)
     (omega (arith, c.pushes.ensures, c.if-stack-part.false, l.long, l.top))

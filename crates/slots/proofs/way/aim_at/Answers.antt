@@ -9,8 +9,8 @@ pub returns-then-c-eq-READ : goal.returns-then-c-eq-READ
 returns-then-c-eq-READ c =
     record {
       says = elim c.then-c-eq-READ.branch [
-        | then-c-eq-READ-via-then-c-eq-READ w ↦ c.cell_from.ensures.says ∙ aim_read c.args.s.now c.args.p c.byte-c.ensures w.if-c-eq-READ.true
-        | then-c-eq-READ-via-else-c-eq-READ+then-c-eq-WRITE w ↦ c.cell_from.ensures.says ∙ aim_write c.args.s.now c.args.p c.byte-c.ensures w.if-c-eq-WRITE.true
+        | then-c-eq-READ-via-then-c-eq-READ w ↦ c.cell_from.ensures.says ∙ aim_read c.args.s.now c.args.p c.byte_at-c.ensures w.if-c-eq-READ.true
+        | then-c-eq-READ-via-else-c-eq-READ+then-c-eq-WRITE w ↦ c.cell_from.ensures.says ∙ aim_write c.args.s.now c.args.p c.byte_at-c.ensures w.if-c-eq-WRITE.true
       ];
       small = c.cell_from.ensures.small;
     }
@@ -18,6 +18,6 @@ returns-then-c-eq-READ c =
 pub returns : goal.returns
 returns c =
     record {
-      says = aim_none c.args.s.now c.args.p c.byte-c.ensures c.if-c-eq-READ.false c.if-c-eq-WRITE.false;
+      says = aim_none c.args.s.now c.args.p c.byte_at-c.ensures c.if-c-eq-READ.false c.if-c-eq-WRITE.false;
       small = omega arith;
     }
