@@ -1,11 +1,12 @@
 -- The code along the way of evaluation: `onward` test by test, the loop of `place`, and what is read at its end.
-use Rattle.std.specs.Prelude.{◌≡◌, refl, true, false, List, length, Some, None}
+use Rattle.std.specs.Prelude.{◌≡◌, ◌⊎◌, refl, Bool, true, false, eqb, List, length, Some, None}
+use Rattle.std.specs.Bool.{then_some}
 use Rattle.std.proofs.Math.Path.{sym}
-use Rattle.std.proofs.Common.{ap, ◌∙◌}
+use Rattle.std.proofs.Common.{ap, ◌∙◌, add-one, inl, inr}
 use Prim.Native.Nat.{ℕ, zero, suc, ◌+◌, ◌<◌, ◌≤◌}
 use native.Mathlib.Omega.{arith}
 use Rattle.std.proofs.Math.ListN.{get_or, get_or-eq_default}
-use borrow.Author.Tests.{lt-ltb, le-ltb, ne_eqb}
+use borrow.Author.Tests.{lt-ltb, le-ltb, ne_eqb, eqb-true, eqb-false}
 use Rattle.slots.specs.Codes.{Told, field_of, goes1, goes2, is_value}
 use Rattle.slots.specs.Walk.{skip_of}
 use Rattle.slots.specs.Answer.{Answer, nonzero, nonzero_at, one_more}
@@ -155,6 +156,21 @@ module _ (s : List ℕ) (p : ℕ) {b : ℕ} (eb : b ≡ get_or s p 0) where
   pub aim_none : (b ≡ 7 → ⊥) → (b ≡ 8 → ⊥) → 0 ≡ aim_number (aim_at s p)
   unfolding aim_at aim_number
   aim_none n m = rw (ne_eqb (get_or s p 0) 7 (λ (z : get_or s p 0 ≡ 7). n (eb ∙ z)), ne_eqb (get_or s p 0) 8 (λ (z : get_or s p 0 ≡ 8). m (eb ∙ z)))
+
+  -- as the code tells them
+  pub cell_told : {v : ℕ} {r : Answer} → v ≡ get_or s (p + 1) 0 → v < 256 → r ≡ then_some (eqb b 17) v → Told (aim_number (cell_from s p)) 256 (one_more r)
+  cell_told {v} {r} ev h er = rw er (go (eqb b 17) refl)
+    where
+      go : (t : Bool) → eqb b 17 ≡ t → Told (aim_number (cell_from s p)) 256 (one_more (then_some t v))
+      go true e = record { says = sym (add-one v) ∙ cell_here (eqb-true b 17 e) v ev; small = omega arith }
+      go false e = record { says = cell_none (eqb-false b 17 e); small = omega arith }
+
+  pub aim_goes : {r : ℕ} → (b ≡ 7) ⊎ (b ≡ 8) → Told (aim_number (cell_from s (p + 1))) 256 r → Told (aim_number (aim_at s p)) 256 r
+  aim_goes (inl e) t = record { says = t.says ∙ aim_read e; small = t.small }
+  aim_goes (inr e) t = record { says = t.says ∙ aim_write e; small = t.small }
+
+  pub aim_no : (b ≡ 7 → ⊥) → (b ≡ 8 → ⊥) → Told (aim_number (aim_at s p)) 256 0
+  aim_no n m = record { says = aim_none n m; small = omega arith }
 
 pub aimed : {s : List ℕ} {p : ℕ} {e r : Answer} → Place s p e → Told (aim_number (aim_at s p)) 256 (one_more r) → Aim s r
 unfolding aim_of

@@ -35,27 +35,18 @@ fn pass(s: &[u8], counts: Counts, stack: &mut [u8]) -> Option<usize>
             return None;
         }
         let c = s[i];
-        if !is_code(c) {
-            return None;
-        }
-        if !field_ok(counts, c, usize::from(byte_at(s, i + 1)), part.d) {
+        if !is_code(c) || !field_ok(counts, c, usize::from(byte_at(s, i + 1)), part.d) {
             return None;
         }
         let w = width(c);
-        if s.len() - i < w {
-            return None;
-        }
-        if stack.len() - part.sp < pushes(c) {
+        if s.len() - i < w || stack.len() - part.sp < pushes(c) {
             return None;
         }
         n += usize::from(is_open(c));
         next = after(stack, part, c);
         i += w;
     }
-    if i < s.len() {
-        return None;
-    }
-    Some(n)
+    (s.len() <= i).then_some(n)
 }
 
 // The same on a stack that may be longer, which is left with zeros where it was used; None where it is shorter than the slot.

@@ -65,11 +65,5 @@ pub fn thread_slot(s: &[u8], counts: Counts, marks: &mut [u8], stack: &mut [u8])
 pub fn cell_slot(s: &[u8], counts: Counts, stack: &mut [u8]) -> bool
     ensures { CellSlot counts.locks counts.cells s.now stack.old stack.new result }
 {
-    if closed(s, counts, stack) != Some(0) {
-        return false;
-    }
-    if s.is_empty() {
-        return false;
-    }
-    value(s[0])
+    closed(s, counts, stack) == Some(0) && value(byte_at(s, 0))
 }

@@ -80,22 +80,19 @@ fn cell_from(s: &[u8], p: usize) -> Option<u8>
     requires { p ≤ length s.now + 1 }
     ensures { Told (aim_number (cell_from s.now p)) 256 (one_more result) }
 {
-    if byte_at(s, p) != CELL {
-        return None;
-    }
-    Some(byte_at(s, p + 1))
+    (byte_at(s, p) == CELL).then_some(byte_at(s, p + 1))
 }
 
 // The cell that the code at p reads or writes, if it does.
+#[tactic(auto, using(crate::specs::WayLoop::aim_goes, crate::specs::WayLoop::aim_no))]
 fn aim_at(s: &[u8], p: usize) -> Option<u8>
     requires { p ≤ length s.now }
     ensures { Told (aim_number (aim_at s.now p)) 256 (one_more result) }
 {
-    let c = byte_at(s, p);
-    if c == READ || c == WRITE {
-        return cell_from(s, p + 1);
+    match byte_at(s, p) {
+        READ | WRITE => cell_from(s, p + 1),
+        _ => None,
     }
-    None
 }
 
 // The cell that the expression that fills s is about to read or write, if it is.
