@@ -1,7 +1,8 @@
 -- The loop of the pass for closed expressions: what holds at its head, and a law for each way round it and out of it.
-use Rattle.std.specs.Prelude.{◌≡◌, Bool, get_or, drop, Option, Some, None, is_none}
+use Rattle.std.specs.Prelude.{◌≡◌, Bool, get_or, drop, Option, Some, None, is_none, leb}
+use Rattle.std.specs.Bool.{then_some}
 use Rattle.std.proofs.Math.Path.{refl, sym, ap}
-use Rattle.std.proofs.Common.{◌∙◌, subst, drop_of_length-le, drop-cons, drop-drop, get_or-drop, lt-ltb, le-ltb}
+use Rattle.std.proofs.Common.{◌∙◌, add-one, leb-true, leb-false, subst, drop_of_length-le, drop-cons, drop-drop, get_or-drop, lt-ltb, le-ltb}
 use Rattle.std.proofs.Math.Bool.{true, false}
 use mathlib.Core.List.{List, [], ◌∷◌}
 use Prim.Native.Nat.{ℕ, zero, suc, ◌+◌, ◌<◌, ◌≤◌}
@@ -13,6 +14,7 @@ use Rattle.slots.specs.Due.{Due, due, done, after, stack_of, due_of, push_of, St
 use Rattle.slots.specs.Closed.{field_ok, ok, is_closed, twelves, closed_count, ok_fits, closed_in, Closed}
 use Rattle.slots.specs.Lent.{swept, swept_none}
 use Rattle.slots.specs.Part.{under, height, at_some, at_none}
+use Rattle.slots.specs.Answer.{one_more}
 use Rattle.slots.specs.declared.stack.Part.{Part}
 
 -- ---- from code to code
@@ -124,6 +126,14 @@ module _ {nl nc : ℕ} {s stack : List ℕ} {dn : Bool} {d sp n i : ℕ} (l : Pa
       let t = ap (λ (x : List ℕ). twelves x 0) (drop_of_length-le s {i = i} h) in
       let z : n + 1 ≡ suc (twelves s 0) = omega (arith, l.counts, t) in
       z ∙ ap (λ (b : Bool). choose b (λ _. suc (twelves s 0)) (λ _. 0)) (sym e ∙ at_end h)
+
+  -- the end of what the code has read, told
+  pub passing_told : dn ≡ true → {r : Option ℕ} → r ≡ then_some (leb (length s) i) n → one_more r ≡ closed_count nl nc s
+  passing_told e er = rw er (go (leb (length s) i) refl)
+    where
+      go : (t : Bool) → leb (length s) i ≡ t → one_more (then_some t n) ≡ closed_count nl nc s
+      go true h = sym (add-one n) ∙ passing_end (leb-true (length s) i h) e
+      go false h = passing_over (leb-false (length s) i h) e
 
   pub passing_short : length s ≤ i → dn ≡ false → 0 ≡ closed_count nl nc s
   passing_short h e = refused nl nc s (sym e ∙ at_end h)
