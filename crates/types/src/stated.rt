@@ -1,24 +1,31 @@
 // The readers of a type's bytes: each answers the place after what it read, or what is wrong and where.
 ghost use Rattle.std.specs.Prelude.{◌≡◌, ◌+◌, ◌^◌, leb, ltb, length, get_or};
 ghost use Rattle.paper.specs.Base.{word32};
-ghost use Rattle.types.specs.Contract.{NameRead, SetRead, TypeRead, TypeLed, StatedRead};
+ghost use Rattle.types.specs.Contract.{byte_below, NameRead, SetRead, TypeRead, TypeLed, StatedRead};
 
 use answers::Refusal;
 use codes::TypeCode;
+
+// A name's or an index's byte, which is below the number that are bound; `unbound` is what is answered where it is not.
+#[inline]
+pub fn read_below(s: &[u8], at: usize, bound: u8, unbound: Refusal) -> Result<usize, Refusal>
+    ensures { result ≡ byte_below s.now at bound unbound }
+{
+    if s.len() <= at {
+        return Err(Refusal::CutImage(s.len()));
+    }
+    if s[at] < bound {
+        Ok(at + 1)
+    } else {
+        Err(unbound)
+    }
+}
 
 // A lock's name.
 pub fn read_name(s: &[u8], at: usize, locks: u8) -> Result<usize, Refusal>
     ensures { NameRead s.now at locks result }
 {
-    if s.len() <= at {
-        return Err(Refusal::CutImage(s.len()));
-    }
-    let name = s[at];
-    if name < locks {
-        Ok(at + 1)
-    } else {
-        Err(Refusal::UnboundName(at))
-    }
+    read_below(s, at, locks, Refusal::UnboundName(at))
 }
 
 // Whether four bytes stand at a place.
