@@ -2,6 +2,8 @@
 // each call. The code is looked at once, and each rule is called from one place, so that the compiler takes it into the judge. a, b and c are what
 // the parts come to. The rules with two parts differ in the test and in the last step, which are two of their five lines: one function for them, with
 // closures for the two, would be no shorter.
+// img, at, work and scope stay apart: img is lent to be read and work to be written, `skip` and `related` take now the one and now the other, and at
+// and scope are others at each call, so that a struct of the four would be taken apart in each rule.
 ghost use Rattle.judging.specs.Contract.{Coded, ReadyUnder, FindsUnder};
 
 use crate::binding::{argument, bind, new_name, number, unit, variable};
