@@ -1,7 +1,6 @@
 -- What is known of an answer where a `?` hands a refusal on, and where `ok_or` puts one in the place of a value that is missing.
 use mathlib.Core.Path.{◌≡◌, refl, ap, ◌∙◌}
 use Prim.Native.Nat.{ℕ}
-use native.Mathlib.Omega.{arith}
 use Rattle.std.proofs.Common.{Option, Some, None, Result, Ok, Err, ok_or}
 use Rattle.std.proofs.lemmas.Result.{err_from_is_err_and}
 use Rattle.std.specs.Prelude.{IsErr, IsErrAnd}

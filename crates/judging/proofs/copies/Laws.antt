@@ -3,11 +3,9 @@ use mathlib.Core.Path.{◌≡◌, refl, ap, ◌∙◌}
 use mathlib.Core.List.{List, ◌++◌}
 use Prim.Native.Nat.{ℕ, ◌+◌, ◌-◌, ◌≤◌, ◌<◌}
 use native.Mathlib.Omega.{arith}
-use native.Mathlib.Nat.{add-zero}
-use native.Mathlib.Decide.{ℕ_discrete}
 use borrow.Rule.Slice.PartMut.{put_mid}
 use lib.ListN.{length, get_or, set, take, drop, length-set, length-append, length-drop, get_or-append}
-use lib.Seq.{get_or-set_same, get_or-set_other, get_or-append-add, get_or-take, get_or-drop, length-take-le}
+use lib.Seq.{get_or-set_same, get_or-append-add, get_or-take, get_or-drop, length-take-le}
 use Rattle.paper.specs.Types.{Ty, unit, int, lock, ref, fun, ty_size}
 use Rattle.types.specs.Holds.{Holds, Byte, Four}
 use Rattle.codes.specs.declared.TypeCode.{TypeCode}

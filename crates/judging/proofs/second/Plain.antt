@@ -62,6 +62,9 @@ module _ {img w : List ℕ} {at n left : ℕ} (O : Some2 img w at n left) where
       let z = W.more in
       (omega arith, omega (arith, O.2.deep), W.inn, O.2.room, O.2.few)
 
+  pub more_left : 1 ≤ left
+  more_left = facts.0
+
   pub part_movable : Movable w (slot (left - 1)) (slot left)
   part_movable = let F = facts in slot_movable w left n O.5 F.3 F.0 F.1 O.6
 

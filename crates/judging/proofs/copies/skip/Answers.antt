@@ -3,7 +3,7 @@ use native.Mathlib.Omega.{arith}
 use Rattle.judging.specs.Copies.{Ends}
 use Rattle.judging.proofs.copies.Codes.{byte_of}
 use Rattle.judging.proofs.copies.Laws.{end_lock, end_plain}
-use Rattle.judging.proofs.copies.Due.{left_all, left_some, left_here, left_room, left_fun, left_ref, left_end, left_next}
+use Rattle.judging.proofs.copies.Due.{left_all, left_some, left_here, left_fun, left_ref, left_end, left_next}
 use Rattle.judging.proofs.copies.skip.Goals.{in-Lock, in_default}
 use Rattle.judging.proofs.copies.skip.Goals as goal
 
