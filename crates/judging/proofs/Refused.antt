@@ -1,7 +1,7 @@
 -- What is known of an answer where a `?` hands a refusal on, and where `ok_or` puts one in the place of a value that is missing.
 use mathlib.Core.Path.{◌≡◌, refl, ap, ◌∙◌}
 use Prim.Native.Nat.{ℕ}
-use Rattle.std.proofs.Common.{Option, Some, None, Result, Ok, Err, ok_or}
+use Rattle.std.proofs.Common.{Option, Some, None, Result, Ok, Err, ok_or, arith}
 use Rattle.std.proofs.lemmas.Result.{err_from_is_err_and}
 use Rattle.std.specs.Prelude.{IsErr, IsErrAnd}
 use Rattle.answers.specs.declared.Refusal.{Refusal}
@@ -20,5 +20,4 @@ pub missing : {A : Type 0} {q : Result ℕ Refusal} {e : Refusal} (o : Option �
 missing o d r v w h = let n = no_value o d v w in (n.0, handed_on r h ∙ ap Err n.1)
 
 pub a_value : {q : Result ℕ Refusal} {x : ℕ} (o : Option ℕ) (d : Refusal) → q ≡ ok_or o d → q ≡ Ok x → o ≡ Some x
-a_value {q} None d v w = let g : q ≡ Err d = v in apart cc
-a_value {q} (Some y) d v w = let g : q ≡ Ok y = v in cc
+a_value o d v w = grind arith
