@@ -1,6 +1,6 @@
 -- What is to come decides: the loop keeps the stack, the binders and the count of open sections, and each way out is one law of
 -- `ClosedLoop`.
-use mathlib.Core.Path.{refl, sym, ◌∙◌}
+use mathlib.Core.Path.{refl, ◌∙◌}
 use Prim.Native.Nat.{◌-◌}
 use native.Mathlib.Omega.{arith}
 use Rattle.slots.specs.ClosedLoop.{passing_start, passing_part, passing_past, passing_told, passing_short, passing_uncoded}
