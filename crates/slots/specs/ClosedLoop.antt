@@ -148,26 +148,26 @@ module _ {nl nc : ℕ} {s stack : List ℕ} {dn : Bool} {d sp n i : ℕ} (l : Pa
         ap (λ (y : List ℕ). ok nl nc y 0 (due d (stack_of stack sp))) (sym (drop-cons s i 0 h))
         ∙ ap (λ (b : Bool). ok nl nc (drop i s) 0 (due_of b d (stack_of stack sp))) (sym nd) ∙ l.same
 
-    pub passing_uncoded : is_code (get_or s i 0) ≡ false → 0 ≡ closed_count nl nc s
+    pub passing_uncoded : false ≡ is_code (get_or s i 0) → 0 ≡ closed_count nl nc s
     unfolding x
-    passing_uncoded e = refused nl nc s (sym (ok_uncoded nl nc x (drop (suc i) s) d (stack_of stack sp) e) ∙ here)
+    passing_uncoded e = refused nl nc s (sym (ok_uncoded nl nc x (drop (suc i) s) d (stack_of stack sp) (sym e)) ∙ here)
 
-    module _ (e : is_code (get_or s i 0) ≡ true) (b : ℕ) (eb : b ≡ get_or s (i + 1) 0) where
+    module _ (e : true ≡ is_code (get_or s i 0)) {b : ℕ} (eb : b ≡ get_or s (i + 1) 0) where
       head : get_or (drop (suc i) s) 0 0 ≡ b
       head = get_or-drop (suc i) s 0 0 ∙ ap (λ (k : ℕ). get_or s k 0) (omega arith) ∙ sym eb
 
-      pub passing_unbound : field_ok nl nc (get_or s i 0) b d ≡ false → 0 ≡ closed_count nl nc s
+      pub passing_unbound : false ≡ field_ok nl nc (get_or s i 0) b d → 0 ≡ closed_count nl nc s
       unfolding x
       passing_unbound f =
-          refused nl nc s (sym (ok_unbound nl nc x (drop (suc i) s) d (stack_of stack sp) e (ap (λ (k : ℕ). field_ok nl nc x k d) head ∙ f))
-          ∙ here)
+          refused nl nc s
+          (sym (ok_unbound nl nc x (drop (suc i) s) d (stack_of stack sp) (sym e) (ap (λ (k : ℕ). field_ok nl nc x k d) head ∙ sym f)) ∙ here)
 
-      module _ (f : field_ok nl nc (get_or s i 0) b d ≡ true) (w : ℕ) (ew : w ≡ field_of (get_or s i 0)) where
+      module _ (f : true ≡ field_ok nl nc (get_or s i 0) b d) (w : ℕ) (ew : w ≡ field_of (get_or s i 0)) where
         on : ok nl nc (drop (suc i) s) w (after (get_or s i 0) d (stack_of stack sp)) ≡ is_closed nl nc s
         unfolding x
         on =
             ap (λ (k : ℕ). ok nl nc (drop (suc i) s) k (after x d (stack_of stack sp))) ew
-            ∙ sym (ok_code nl nc x (drop (suc i) s) d (stack_of stack sp) e (ap (λ (k : ℕ). field_ok nl nc x k d) head ∙ f)) ∙ here
+            ∙ sym (ok_code nl nc x (drop (suc i) s) d (stack_of stack sp) (sym e) (ap (λ (k : ℕ). field_ok nl nc x k d) head ∙ sym f)) ∙ here
 
         pub passing_cut : length s ≤ i + w → 0 ≡ closed_count nl nc s
         passing_cut m = refused nl nc s (sym (hold_cut nl nc w (drop (suc i) s) _ (omega (arith, length-drop (suc i) s))) ∙ on)

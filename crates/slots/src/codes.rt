@@ -1,6 +1,6 @@
 // What each code of the erased form has, by tables of 19 entries packed into one number each, code 00 lowest: a look-up is a shift. A byte that
 // is no code has the tables' default. The codes are bytes and no enum: what `value`, `skip`, `place`, `aim` and `put` promise holds of all 256
-// bytes (`is_value`, `Skipped`, `Place`, `Aim`, `Put`), and `put` and `place` read on over bytes that are no codes, by those defaults.
+// bytes (`is_value`, `Skipped`, `Place`, `Aim`, `Put`): `put` reads on over a byte that is no code and `place` stops at one, by those defaults.
 ghost use Rattle.std.specs.Prelude.{◌≡◌, ◌+◌, ◌≤◌};
 ghost use Rattle.std.specs.Int.{from_bool};
 ghost use Rattle.slots.specs.Codes.{entry_of, is_code, kids_of, field_of, bind1, bind2, goes1, goes2, is_value, open_of, Told};

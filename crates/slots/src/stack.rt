@@ -8,7 +8,7 @@ ghost use Rattle.slots.specs.Part.{Comes};
 use crate::codes::{binds_first, binds_second, kids};
 
 // The entries: a further part under the same binders, one under a binder more, and the end of a binder's scope. They are numbers and no enum: the
-// lent stack is a buffer of bytes (`&mut [u8]`), as C lends it.
+// stack is a lent buffer of bytes (a rule of the project).
 const FURTHER: u8 = 0;
 
 const BOUND: u8 = 1;

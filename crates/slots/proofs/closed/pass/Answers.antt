@@ -1,6 +1,6 @@
 -- What is to come decides: the loop keeps the stack, the binders and the count of open sections, and each way out is one law of
 -- `ClosedLoop`.
-use mathlib.Core.Path.{refl, sym, ◌∙◌}
+use mathlib.Core.Path.{refl, ◌∙◌}
 use Prim.Native.Nat.{◌-◌}
 use native.Mathlib.Omega.{arith}
 use Rattle.slots.specs.ClosedLoop.{passing_start, passing_part, passing_past, passing_told, passing_short, passing_uncoded}
@@ -19,10 +19,10 @@ pub returns-then-not-is_code : goal.returns-then-not-is_code
 returns-then-not-is_code c =
     let l = passing_part c.loop-next.invariant c.in-Some.is in
     elim c.then-not-is_code.branch [
-      | then-not-is_code-via-then-not-is_code w ↦ passing_uncoded l c.if-s-i.false refl (sym w.if-not-is_code.ensures)
+      | then-not-is_code-via-then-not-is_code w ↦ passing_uncoded l c.if-s-i.false refl w.if-not-is_code.ensures
       | then-not-is_code-via-else-not-is_code+then-not-field_ok w ↦
-          passing_unbound l c.if-s-i.false refl (sym w.if-not-is_code.ensures) w.from.result (w.from.ensures ∙ w.byte_at.ensures)
-          (sym w.if-not-field_ok.ensures)
+          passing_unbound l c.if-s-i.false refl w.if-not-is_code.ensures (w.from.ensures ∙ w.byte_at.ensures)
+          w.if-not-field_ok.ensures
     ]
 
 pub returns-then-s-i-2 : goal.returns-then-s-i-2
@@ -30,11 +30,11 @@ returns-then-s-i-2 c =
     let l = passing_part c.loop-next.invariant c.in-Some.is in
     elim c.then-s-i-2.branch [
       | then-s-i-2-via-then-s-i-2 w ↦
-          passing_cut l c.if-s-i.false refl (sym c.if-not-is_code.ensures) c.from.result (c.from.ensures ∙ c.byte_at.ensures)
-          (sym c.if-not-field_ok.ensures) (c.width-w.result - 1) (omega (arith, c.width-w.ensures.says)) (omega (arith, w.if-s-i-2.true))
+          passing_cut l c.if-s-i.false refl c.if-not-is_code.ensures (c.from.ensures ∙ c.byte_at.ensures)
+          c.if-not-field_ok.ensures (c.width-w.result - 1) (omega (arith, c.width-w.ensures.says)) (omega (arith, w.if-s-i-2.true))
       | then-s-i-2-via-else-s-i-2+then-stack-part w ↦
-          passing_full l c.if-s-i.false refl (sym c.if-not-is_code.ensures) c.from.result (c.from.ensures ∙ c.byte_at.ensures)
-          (sym c.if-not-field_ok.ensures) (c.width-w.result - 1) (omega (arith, c.width-w.ensures.says))
+          passing_full l c.if-s-i.false refl c.if-not-is_code.ensures (c.from.ensures ∙ c.byte_at.ensures)
+          c.if-not-field_ok.ensures (c.width-w.result - 1) (omega (arith, c.width-w.ensures.says))
           (omega (arith, w.pushes.ensures, w.if-stack-part.true))
     ]
 
@@ -50,8 +50,8 @@ pub loop-next-preserved : goal.loop-next-preserved
 loop-next-preserved c =
     let l = passing_part c.loop-next.invariant c.in-Some.is in
     passing_on l c.if-s-i.false refl
-    (sym c.if-not-is_code.ensures) c.from.result (c.from.ensures ∙ c.byte_at.ensures)
-    (sym c.if-not-field_ok.ensures) (c.width-w.result - 1)
+    c.if-not-is_code.ensures (c.from.ensures ∙ c.byte_at.ensures)
+    c.if-not-field_ok.ensures (c.width-w.result - 1)
     (omega (arith, c.width-w.ensures.says)) _ (omega arith) (omega arith)
     (omega (arith, c.pushes.ensures, c.if-stack-part.false, l.long, l.top))
     c.from-n.result (c.from-n.ensures ∙ c.is_open.ensures) c.after-next.auto.stack c.after-next.ensures

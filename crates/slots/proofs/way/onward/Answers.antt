@@ -34,4 +34,5 @@ returns-then-value c =
 pub returns : goal.returns
 returns c =
     on_second c.requires c.width.ensures.says c.if-not-goes_first.ensures c.if-s-f.false c.if-not-value.ensures c.if-not-goes_second.ensures
-    c.in-Some.ensures c.if-s-e.false c.if-value.ensures
+    c.in-Some.ensures c.if-s-e.false
+    c.if-value.ensures
