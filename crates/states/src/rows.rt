@@ -8,7 +8,7 @@ use places::{is_clear, two_at};
 use plans::card::Slot;
 
 // So many slots from the first on, one behind the other, as their lengths are.
-#[derive(Clone, Copy)]
+#[derive(Clone, Copy, Debug, PartialEq, Eq)]
 pub(crate) struct Rows {
     pub(crate) first: Slot,
     pub(crate) count: usize,
