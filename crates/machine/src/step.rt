@@ -100,6 +100,6 @@ pub(crate) fn step_held(
     let from = slot.base + due.from;
     let to = slot.base + due.to;
     let Scratch { old, out, stack } = scratch;
-    let m = fill(&state[from..to], old, 0).unwrap();
+    let m = fill(&state[from..to], old, 0).unwrap(); // no thread is longer than `old`
     run_part(state, i, card, due, &old[..m], out, stack)
 }

@@ -12,7 +12,7 @@ use places::byte_at;
 use states::race;
 use std::ops::ControlFlow;
 
-// The race's line, if there is one after a step: the text ends behind it, or goes on from where it was.
+// The race's line, if there is one after a step: the text ends behind it, or goes on from where it was. There is room for it: `Ready`.
 fn after_step(state: &[u8], out: &mut [u8], at: usize) -> ControlFlow<usize, usize>
     requires { Ready 14 state.now out.old at }
     ensures { Races state.now out.old at out.new result }
@@ -27,7 +27,7 @@ fn after_step(state: &[u8], out: &mut [u8], at: usize) -> ControlFlow<usize, usi
     }
 }
 
-// The line of a thread's step, and the race after it; none where it makes no step.
+// The line of a thread's step, and the race after it, for which there is room: `Ready`. None where it makes no step.
 fn step_line(
     state: &mut [u8],
     thread: u64,

@@ -55,7 +55,7 @@ fn load_text(image: &[u8], schedule: &[u8], state: &mut [u8], out: &mut [u8], at
             if n < 10 {
                 return at;
             }
-            load_line(n, out, at).unwrap()
+            load_line(n, out, at).unwrap() // shorter than the run's lines, which have room
         }
     }
 }

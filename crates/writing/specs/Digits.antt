@@ -1,6 +1,6 @@
 -- What there is to know of paper's decimal numbers and hex digits: how they grow by one digit, and how long they get.
 use Rattle.std.specs.Prelude.{Option, Some, None, ◌≡◌, refl, Bool, true, false, List, [], ◌∷◌, ◌++◌, ℕ, zero, suc, ◌+◌, ◌*◌, ◌/◌, ◌%◌, ◌^◌, ◌<◌, ◌≤◌, ltb, length, take, drop, get_or}
-use Rattle.std.proofs.Common.{ap, sym, take-append-drop, ◌∙◌, pow-suc, add-one, arith, length-append, lt-ltb, le-ltb, ltb-true, ltb-false}
+use Rattle.std.proofs.Common.{take_all, ap, sym, take-append-drop, ◌∙◌, pow-suc, add-one, arith, length-append, lt-ltb, le-ltb, ltb-true, ltb-false}
 use Rattle.std.proofs.Math.Seq.{take-suc}
 use Rattle.paper.specs.Texts.{digits, decimal, hex_digit, hex}
 use Rattle.writing.specs.Written.{Written, both_written, both_short}
@@ -97,3 +97,7 @@ module _ (s : List ℕ) (i : ℕ) (d : List ℕ) (at : ℕ) {d₁ : List ℕ} {n
   hex_short e f z a b =
       let g : hex s ≡ hex (take (i + 1) s) ++ hex (drop (i + 1) s) = ap hex (sym (take-append-drop (i + 1) s)) ∙ hex_append (take (i + 1) s) (drop (i + 1) s) in
       rw g (both_short d (hex (take (i + 1) s)) at (hex_turn e f z) (hex (drop (i + 1) s)) a b)
+
+pub hex_end : (s : List ℕ) (i : ℕ) (d : List ℕ) (at : ℕ) {d₁ : List ℕ} {r : Option ℕ} → length s ≤ i → Written (take at d ++ hex (take i s)) d d₁ r
+    → Written (take at d ++ hex s) d d₁ r
+hex_end s i d at h w = rw (take_all i s h) at w

@@ -60,8 +60,11 @@ module _ {res before after : List ℕ} {r : Option ℕ} (w : Written res before 
       ap length w.bytes
       ∙ length-take-le (length before) (laid res before) (omega (arith, length-append res (drop (length res) before), length-drop (length res) before))
 
+  pub written_room : length res ≤ length before → (r ≡ Some (length res)) × Fits res before after (length res)
+  written_room l = (w.says ∙ end_fits res before l, record { all = refl; bytes = w.bytes ∙ over_fits res before l; room = l })
+
   pub written_some : length res ≤ length before → IsSome r
-  written_some l = subst IsSome (sym (w.says ∙ end_fits res before l)) refl
+  written_some l = subst IsSome (sym (written_room l).0) refl
 
   pub written_fits : {n : ℕ} → r ≡ Some n → Fits res before after n
   written_fits {n} q = go (leb (length res) (length before)) refl
@@ -69,8 +72,9 @@ module _ {res before after : List ℕ} {r : Option ℕ} (w : Written res before 
       go : (b : Bool) → leb (length res) (length before) ≡ b → Fits res before after n
       go true e =
           let l = leb-true _ _ e in
-          let o : Some n ≡ Some (length res) = sym q ∙ w.says ∙ end_fits res before l in
-          record { all = cc; bytes = w.bytes ∙ over_fits res before l; room = l }
+          let o : Some n ≡ Some (length res) = sym q ∙ (written_room l).0 in
+          let z : length res ≡ n = cc in
+          subst (Fits res before after) z (written_room l).1
       go false e = let o : Some n ≡ None = sym q ∙ w.says ∙ end_short res before (leb-false _ _ e) in cc
 
   pub written_long : r ≡ None → length before < length res
@@ -151,6 +155,15 @@ module _ (d x : List ℕ) (at : ℕ) {d₁ : List ℕ} {r₁ : Option ℕ} (w : 
   pub both_written : {n : ℕ} → r₁ ≡ Some n → {d₂ : List ℕ} {r : Option ℕ} → Written (take n d₁ ++ v) d₁ d₂ r → Written (take at d ++ (x ++ v)) d d₂ r
   both_written e {d₂} {r} z =
       subst (λ (y : List ℕ). Written y d d₂ r) (append_assoc (take at d) x v) (written_behind (fits_stands (written_fits w e)) v z)
+
+  -- either way
+  pub then_written : {d₂ : List ℕ} {r : Option ℕ} → ((n : ℕ) → r₁ ≡ Some n → Written (take n d₁ ++ v) d₁ d₂ r)
+      → (r₁ ≡ None → (r ≡ None) × (d₂ ≡ d₁)) → Written (take at d ++ (x ++ v)) d d₂ r
+  then_written {d₂} {r} on stop = go r₁ refl
+    where
+      go : (o : Option ℕ) → r₁ ≡ o → Written (take at d ++ (x ++ v)) d d₂ r
+      go (Some n) e = both_written e (on n e)
+      go None e = subst (λ (y : List ℕ). Written (take at d ++ (x ++ v)) d y r) (sym (stop e).1) (both_short e (stop e).0)
 
 -- ---- a place past the end is the end
 

@@ -1,9 +1,8 @@
 -- The digits of the bytes passed are written.
 use native.Mathlib.Omega.{arith}
-use lib.Seq.{take_all}
 use Rattle.paper.specs.Texts.{hex}
 use Rattle.writing.specs.Written.{none_written}
-use Rattle.writing.specs.Digits.{hex_turn, hex_short}
+use Rattle.writing.specs.Digits.{hex_turn, hex_short, hex_end}
 use Rattle.writing.proofs.hex.Goals as goal
 
 pub loop-b-init : goal.loop-b-init
@@ -23,4 +22,4 @@ loop-b-preserved c =
     rw c.in_ok-next.was at w
 
 pub returns : goal.returns
-returns c = rw (take_all c.loop-b.b-index c.args.bytes.now (omega arith)) at c.loop-b.invariant
+returns c = hex_end c.args.bytes.now c.loop-b.b-index c.args.dst.now c.args.at (omega arith) c.loop-b.invariant
