@@ -24,7 +24,8 @@ use lines::cut::{LINE_END, before};
 use reports::{Counts, Outcome};
 use std::io;
 
-fn run(kind: Kind, line: &[u8]) -> Outcome {
+// Whether everything was as due. None where a field of the line is not what it should be.
+fn run(kind: Kind, line: &[u8]) -> Option<bool> {
     match kind {
         Kind::Judge => judge_lines::judged(line),
         Kind::RawLoad => load_lines::raw_loaded(line),
@@ -42,7 +43,7 @@ fn one(rt: &impl Print, line: &[u8], number: usize, counts: &mut Counts) -> io::
     let Ok(kind) = kind_of(line) else {
         return reports::unreadable(rt, number);
     };
-    let outcome = run(kind, line);
+    let outcome = Outcome::from(run(kind, line));
     counts.add(kind, outcome);
     reports::vector(rt, kind, number, outcome)
 }
@@ -62,9 +63,9 @@ fn run_all(rt: &impl Print, s: &[u8]) -> io::Result<()> {
 }
 
 fn short_buffers(rt: &impl Print, line: &[u8]) -> io::Result<()> {
-    let types = judge_lines::with_short_types(line);
+    let types = Outcome::from(judge_lines::with_short_types(line));
     println!(rt; "short type buffer {types}")?;
-    let work = judge_lines::with_short_work(line);
+    let work = Outcome::from(judge_lines::with_short_work(line));
     println!(rt; "short work buffer {work}")
 }
 

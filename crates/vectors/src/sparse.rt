@@ -35,7 +35,7 @@ pub(crate) fn state(field: &[u8], out: &mut [u8]) -> Option<usize> {
 pub(crate) fn pair(first: &[u8], last: &[u8], out: &mut [u8], due: &mut [u8]) -> Option<usize> {
     let length = state(first, out)?;
     let after = state(last, due)?;
-    if after == length { Some(length) } else { None }
+    (after == length).then_some(length)
 }
 
 // How much of a buffer is lent: as much as the state is long, or, where that is a whole state's length, all of it.
