@@ -1,8 +1,9 @@
 // A line's call of the machine: on the state that stands in its field, compared with the answer and the state that are due. None where a field
 // is no state.
+use crate::buffers::{PATTERN, STATE, filled};
 use crate::rows::Row;
 use crate::sparse::Lent;
-use crate::{buffers, rows, sparse};
+use crate::{rows, sparse};
 
 fn made_on<F: Fn(&mut [u8]) -> Row>(
     before: &[u8],
@@ -13,10 +14,10 @@ fn made_on<F: Fn(&mut [u8]) -> Row>(
 ) -> Option<bool>
     requires { F.IsAlwaysCallable call.now }
 {
-    let mut state = buffers::state();
-    let mut expected = buffers::state();
+    let mut state = filled::<STATE>(PATTERN);
+    let mut expected = filled::<STATE>(PATTERN);
     let length = sparse::pair(before, after, &mut state, &mut expected)?;
-    let n = lent.of(length).min(49500);
+    let n = lent.of(length).min(STATE);
     let row = call(&mut state[..n]);
     Some(rows::as_due(row, due, &state, &expected))
 }

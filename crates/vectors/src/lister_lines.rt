@@ -1,7 +1,8 @@
 // The lines of the lister: `N image at code CODE PLACE NEXT`, `N image at end` and `N image at refuse NO PLACE`.
+use crate::buffers::{IMAGE, filled};
+use crate::due;
 use crate::fields::{field, numbers, rest};
 use crate::rows::{Row, item_row};
-use crate::{buffers, due};
 use lines::digits::bytes;
 use lister::next;
 
@@ -29,7 +30,7 @@ fn read_due(fields: &[u8]) -> Option<(usize, Row)> {
 pub(crate) fn listed(line: &[u8]) -> Option<bool> {
     let fields = rest(line);
     let (at, due) = read_due(rest(fields))?;
-    let mut image = buffers::image();
+    let mut image = filled::<IMAGE>(0);
     let n = bytes(field(fields), &mut image)?;
     Some(item_row(next(due::first(&image, n), at)) == due)
 }

@@ -1,7 +1,8 @@
 // The lines of the loads: `L image answer place` (raw) and `C image answer place -` (judged), where answer 0 is loaded.
+use crate::buffers::{IMAGE, PATTERN, STATE, WORK, filled};
+use crate::due;
 use crate::fields::{field, numbers, rest};
 use crate::rows::{Row, load_row};
-use crate::{buffers, due};
 use lines::digits::bytes;
 use loads::entry::{judged_load, raw_load};
 
@@ -19,14 +20,14 @@ fn kept(due: Row, state: &[u8]) -> &[u8] {
 }
 
 fn raw_on(image: &[u8], due: Row) -> bool {
-    let mut state = buffers::state();
+    let mut state = filled::<STATE>(PATTERN);
     let row = load_row(raw_load(image, &mut state));
     due::load_as_due(row, due, kept(due, &state))
 }
 
 fn judged_on(image: &[u8], due: Row) -> bool {
-    let mut state = buffers::state();
-    let mut work = buffers::work();
+    let mut state = filled::<STATE>(PATTERN);
+    let mut work = filled::<WORK>(PATTERN);
     let row = load_row(judged_load(image, &mut state, &mut work));
     let cleared = due::cleared(&work, due::WORK_BYTES);
     cleared && due::load_as_due(row, due, kept(due, &state))
@@ -37,7 +38,7 @@ fn loaded<F: Fn(&[u8], Row) -> bool>(line: &[u8], load_on: F) -> Option<bool>
 {
     let fields = rest(line);
     let due = read_due(rest(fields))?;
-    let mut image = buffers::image();
+    let mut image = filled::<IMAGE>(0);
     let n = bytes(field(fields), &mut image)?;
     Some(load_on(due::first(&image, n), due))
 }

@@ -1,8 +1,9 @@
 // The lines of the race finder: `R state answer i j cell`, or `R state answer -` where there is no pair.
+use crate::buffers::{PATTERN, STATE, filled};
 use crate::fields::{field, numbers, rest};
 use crate::rows::{Row, race_row};
 use crate::sparse::Lent;
-use crate::{buffers, due, sparse};
+use crate::{due, sparse};
 use states::race;
 
 // The answer that is due.
@@ -16,7 +17,7 @@ fn read_due(fields: &[u8]) -> Option<Row> {
 }
 
 fn race_on(fields: &[u8], due: Row, lent: Lent) -> Option<bool> {
-    let mut state = buffers::state();
+    let mut state = filled::<STATE>(PATTERN);
     let length = sparse::state(field(fields), &mut state)?;
     Some(race_row(race(due::first(&state, lent.of(length)))) == due)
 }

@@ -69,10 +69,8 @@ impl Counts {
     // A line for each kind that was run.
     pub(crate) fn print(&self, rt: &impl Print) -> io::Result<()> {
         let kinds = KINDS;
-        for kind in &kinds {
-            let run = self.of[*kind as usize].run;
-            let failed = self.of[*kind as usize].failed;
-            if 0 < run {
+        for (kind, Count { run, failed }) in kinds.iter().zip(&self.of) {
+            if 0 < *run {
                 println!(rt; "{run} {kind} run, {failed} failed")?;
             }
         }

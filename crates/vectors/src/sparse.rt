@@ -1,4 +1,6 @@
 // A state as a field: `length:offset=hex+offset=hex`, every other byte zero.
+use crate::buffers::STATE;
+use crate::due::STATE_BYTES;
 use lines::cut::{after, before};
 use lines::digits::{decimal, hex};
 
@@ -47,8 +49,8 @@ pub(crate) enum Lent {
 
 impl Lent {
     pub(crate) fn of(self, length: usize) -> usize {
-        if self == Lent::All && 49408 <= length {
-            49500
+        if self == Lent::All && STATE_BYTES <= length {
+            STATE
         } else {
             length
         }
