@@ -11,6 +11,8 @@ use Rattle.laws.specs.Cards.{sixteen_fits}
 use Rattle.laws.specs.LoadLaws.{no_ok, raw_done}
 use Rattle.laws.specs.RunLaws.{laid_buffer}
 use Rattle.answers.specs.declared.Refusal.{Refusal}
+use Rattle.answers.specs.declared.Refusal.TheVariants.{ShortBuffer, UntrueLength, OtherVersion, NoSuchCode, CutImage, LeftOver, OverLimit, UnboundVariable, UnboundName}
+use Rattle.answers.specs.declared.Refusal.TheVariants.{OwnTypeLong, OtherForm, NotSubtype, UndeclaredNeed, ForkNeeds, LockInType, LockInNeed, ErasedLong}
 use Rattle.answers.specs.Numbers.{number, place}
 use Rattle.loads.specs.Contract.{Answer, RawLoads}
 use Rattle.trial_texts.specs.Put.{Room, Put, put_none, put_some, written_put}
@@ -20,7 +22,7 @@ use Rattle.trial_texts.specs.Lines.{load_line}
 use Rattle.trial_texts.specs.Bench.{Bench, Beyond, beyond_same, beyond_then, laid_beyond}
 use Rattle.trial_texts.specs.StepText.{Ready}
 use Rattle.trial_texts.specs.Along.{Prints}
-use Rattle.trial_texts.specs.Early.{behind, raw_refusal, refusal_most, behind_loaded, behind_unread, behind_long}
+use Rattle.trial_texts.specs.Early.{behind, raw_refusal, refusal_most, refusal_low, behind_loaded, behind_unread, behind_long}
 
 -- ---- the run
 
@@ -97,6 +99,25 @@ module _ {image s s' : List ℕ} (long : 49408 ≤ length s) (firsts : (S : Stat
         beyond = subst (Beyond s) (sym e) (laid_beyond s S g long);
       }
 
+other_number : (e : Refusal) → (e ≡ ErasedLong → ⊥) → number e < 17
+other_number ShortBuffer k = omega arith
+other_number UntrueLength k = omega arith
+other_number OtherVersion k = omega arith
+other_number (NoSuchCode p) k = omega arith
+other_number (CutImage p) k = omega arith
+other_number (LeftOver p) k = omega arith
+other_number (OverLimit p) k = omega arith
+other_number (UnboundVariable p) k = omega arith
+other_number (UnboundName p) k = omega arith
+other_number (OwnTypeLong p) k = omega arith
+other_number (OtherForm p) k = omega arith
+other_number (NotSubtype p) k = omega arith
+other_number (UndeclaredNeed p) k = omega arith
+other_number (ForkNeeds p) k = omega arith
+other_number (LockInType p) k = omega arith
+other_number (LockInNeed p) k = omega arith
+other_number ErasedLong k = absurd (k refl)
+
 module _ (image schedule : List ℕ) where
   load_ok : (S : State) → raw sixteen image ≡ ok S → load_text sixteen image schedule ≡ run_text sixteen schedule S
   unfolding load_text
@@ -140,6 +161,9 @@ module _ (image schedule : List ℕ) where
           inside = let k = w.space in omega arith;
           beyond = subst (Beyond s) (sym r.1) (beyond_same s);
         }
+
+    pub load_other : {s' : List ℕ} {e : Refusal} → RawLoads image s (Err e) s' → (e ≡ ErasedLong → ⊥) → LoadPrints image schedule s out at s' out at
+    load_other {e = e} a k = load_unread a (refusal_low image (raw_refusal image (not_loaded a).0) (other_number e k))
 
     module _ {s' out' : List ℕ} {e : Refusal} {n : ℕ} {o : Option ℕ} (a : RawLoads image s (Err e) s') (same : n ≡ number e)
         (v : Written (take at out ++ load_line n) out out' o) where

@@ -22,6 +22,7 @@ fn after_step(state: &[u8], out: &mut [u8], at: usize) -> ControlFlow<usize, usi
             let end = race_line(pair.first, pair.second, pair.cell, out, at).unwrap();
             ControlFlow::Break(end)
         }
+        // Two arms: an or-pattern with `Ok(None)` in it gives the proof no facts.
         Ok(None) => ControlFlow::Continue(at),
         Err(_) => ControlFlow::Continue(at),
     }
