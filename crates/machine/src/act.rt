@@ -6,7 +6,7 @@ use crate::answer::{Kind, Made, NoStep};
 
 // What changes beside the thread. A new cell's value and a new thread are the bytes behind the code of the part that makes the step; the value
 // that a cell is set to is said by the place where it begins in that part.
-#[derive(Clone, Copy)]
+#[derive(Clone, Copy, Debug, PartialEq, Eq)]
 pub(crate) enum Also {
     Nothing,
     NewCell,
@@ -18,7 +18,7 @@ pub(crate) enum Also {
 }
 
 // What the part at the place of evaluation does: what the step answers, how many bytes the part becomes, and what else changes.
-#[derive(Clone, Copy)]
+#[derive(Clone, Copy, Debug, PartialEq, Eq)]
 pub(crate) struct Goes {
     pub made: Made,
     pub size: usize,

@@ -17,7 +17,7 @@ use slots::way::place;
 use writing::fill;
 
 // The part of a thread of `used` bytes that makes its next step: from and to, and where its own second part begins in it, if that is known.
-#[derive(Clone, Copy)]
+#[derive(Clone, Copy, Debug, PartialEq, Eq)]
 struct Due {
     used: usize,
     from: usize,
