@@ -1,5 +1,5 @@
 -- The two loads for C: above the number of the answer stands the place.
-use Rattle.std.specs.Prelude.{◌≡◌, Bool, ◌||◌, List, ℕ, ◌≤◌, leb, length}
+use Rattle.std.specs.Prelude.{◌≡◌, Bool, ◌||◌, List, ℕ, ◌≤◌, leb, length, Result, Ok, Err}
 use Rattle.std.proofs.Math.Path.{refl}
 use Rattle.std.proofs.Common.{sym, ◌∙◌}
 use Rattle.std.proofs.Math.Bool.{true, false}
@@ -15,7 +15,11 @@ use Rattle.paper.specs.States.{State, sixteen, total}
 use Rattle.paper.specs.Loads.{start, raw, judged}
 use Rattle.paper.specs.Calls.{RawCall, raw_call, after_raw, JudgedCall, judged_call, after_judged, work_bytes}
 use Rattle.laws.specs.Verdicts.{refused_place}
+use Rattle.answers.specs.declared.Refusal.{Refusal}
+use Rattle.answers.specs.Said.{said}
+use Rattle.std.specs.Result.{result_and}
 use Rattle.bench.specs.Packing.{below}
+use Rattle.bench.specs.Judging as judging
 
 unfoldable pub packed : Out (Unit {0}) → ℕ
 packed (ok u) = 0
@@ -98,3 +102,14 @@ module _ (image s : List ℕ) where
         go : (b : Bool) → Fits (choose {X = JudgedCall} b (λ _. record { says = refused 1 0; state = s; work = w }) (λ _. after_judged sixteen s w (judged sixteen image))).says
         go true = omega arith
         go false = after_judged_lem (judged sixteen image) judged_fits
+
+-- ---- a load is packed as a length of 0
+
+pub load_packed : (r : Result (Unit {0}) Refusal) → judging.packed (said (result_and r (Ok 0))) ≡ packed (said r)
+unfolding judging.packed packed below
+load_packed (Ok u) = refl
+load_packed (Err e) = refl
+
+pub load_fits : (r : Result (Unit {0}) Refusal) → Fits (said r) → judging.Fits (said (result_and r (Ok 0)))
+load_fits (Ok u) h = omega arith
+load_fits (Err e) h = h

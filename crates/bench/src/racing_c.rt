@@ -15,6 +15,7 @@ fn pack(found: Result<Option<Pair>, Unfit>) -> u64
 {
     match found {
         Ok(Some(pair)) => {
+            // `as`, since a `u8::try_from` would have an Err that no pair reaches.
             let threads = below(pair.first as u8, below(pair.second as u8, pair.cell as u64));
             below(0, below(1, threads))
         }

@@ -1,4 +1,5 @@
-// The archive for C (include/laverockin.h): the functions of `bench`, each under its name and with its clause. A crate is a library or an archive.
+// The archive for C (include/laverockin.h): the functions of `bench`, each under its name and with its clause. They stand a second time because a crate
+// is a library or the archive that the C interface needs.
 #![tactic(auto)]
 
 ghost use Rattle.bench.specs.Judging.{JudgesC};

@@ -97,14 +97,15 @@ exp_kept exps.Then r = refl
 exp_kept exps.Add r = refl
 exp_kept exps.If r = refl
 
-type_in : (c : TypeCode) → (0x20 ≤ type_byte c) × (type_byte c ≤ 0x24)
+-- each code is within the range of its kind
+pub type_in : (c : TypeCode) → (0x20 ≤ type_byte c) × (type_byte c ≤ 0x24)
 type_in types.Unit = (lit≤ tt, lit≤ tt)
 type_in types.Int = (lit≤ tt, lit≤ tt)
 type_in types.Lock = (lit≤ tt, lit≤ tt)
 type_in types.Ref = (lit≤ tt, lit≤ tt)
 type_in types.Function = (lit≤ tt, lit≤ tt)
 
-exp_in : (c : ExpCode) → (0x01 ≤ exp_byte c) × (exp_byte c ≤ 0x0F)
+pub exp_in : (c : ExpCode) → (0x01 ≤ exp_byte c) × (exp_byte c ≤ 0x0F)
 exp_in exps.Unit = (lit≤ tt, lit≤ tt)
 exp_in exps.Number = (lit≤ tt, lit≤ tt)
 exp_in exps.Variable = (lit≤ tt, lit≤ tt)

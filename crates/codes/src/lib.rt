@@ -36,21 +36,21 @@ impl TryFrom<u8> for TypeCode {
 
 #[derive(Clone, Copy, Debug, PartialEq, Eq)]
 pub enum ExpCode {
-    Unit,
-    Number,
-    Variable,
-    Function,
-    Apply,
-    NewCell,
-    Read,
-    Write,
-    Fork,
-    NewLock,
-    Section,
-    Let,
-    Then,
-    Add,
-    If,
+    Unit = 0x01,
+    Number = 0x02,
+    Variable = 0x03,
+    Function = 0x04,
+    Apply = 0x05,
+    NewCell = 0x06,
+    Read = 0x07,
+    Write = 0x08,
+    Fork = 0x09,
+    NewLock = 0x0A,
+    Section = 0x0B,
+    Let = 0x0C,
+    Then = 0x0D,
+    Add = 0x0E,
+    If = 0x0F,
 }
 
 impl TryFrom<u8> for ExpCode {
@@ -84,22 +84,6 @@ impl From<ExpCode> for u8 {
     ghost from_gives = { λ code b. b ≡ exp_byte code };
 
     fn from(code: ExpCode) -> u8 {
-        match code {
-            ExpCode::Unit => 0x01,
-            ExpCode::Number => 0x02,
-            ExpCode::Variable => 0x03,
-            ExpCode::Function => 0x04,
-            ExpCode::Apply => 0x05,
-            ExpCode::NewCell => 0x06,
-            ExpCode::Read => 0x07,
-            ExpCode::Write => 0x08,
-            ExpCode::Fork => 0x09,
-            ExpCode::NewLock => 0x0A,
-            ExpCode::Section => 0x0B,
-            ExpCode::Let => 0x0C,
-            ExpCode::Then => 0x0D,
-            ExpCode::Add => 0x0E,
-            ExpCode::If => 0x0F,
-        }
+        code as u8
     }
 }

@@ -26,20 +26,18 @@ pub(crate) fn skip(s: &[u8], at: usize) -> usize
     let mut p = at;
     let mut due: usize = 0;
     loop {
-        let code = s[p];
-        if code == TypeCode::Function as u8 {
-            due += 1;
-            p += 1;
-            continue;
-        }
-        if code == TypeCode::Ref as u8 {
-            p += 2;
-            continue;
-        }
-        let end = if code == TypeCode::Lock as u8 {
-            p + 2
-        } else {
-            p + 1
+        let end = match code_at(s, p) {
+            TypeCode::Function => {
+                due += 1;
+                p += 1;
+                continue;
+            }
+            TypeCode::Ref => {
+                p += 2;
+                continue;
+            }
+            TypeCode::Lock => p + 2,
+            _ => p + 1,
         };
         if due == 0 {
             return end;
@@ -54,9 +52,9 @@ pub(crate) fn copy(w: &mut [u8], from: usize, to: usize)
     requires { Movable w.old from to }
     ensures { Moved w.old w.new from to }
 {
-    let code = w[from];
-    if code < TypeCode::Lock as u8 {
-        w[to] = code;
+    let code = code_at(w, from);
+    if matches!(code, TypeCode::Unit | TypeCode::Int) {
+        w[to] = code as u8;
         return;
     }
     let end = skip(w, from);
@@ -77,9 +75,7 @@ pub(crate) fn give(s: &[u8], at: usize, w: &mut [u8]) -> usize
     ensures { Given s.now at w.old w.new result }
 {
     let size = skip(s, at) - at;
-    let code = s[at];
-    w[0] = code;
-    copy_in(s, at + 1, size - 1, w, 1);
+    copy_in(s, at, size, w, 0);
     size
 }
 

@@ -6,18 +6,20 @@ use crate::{copies, typing};
 use answers::Refusal;
 use reading::scope::Scope;
 
+// What the whole expression stands under.
+const OUTERMOST: Scope = Scope {
+    vars: 0,
+    locks: 0,
+    left: 64,
+};
+
 // The judge, on buffers that are long enough; the work buffer is left as the typing leaves it.
 fn judge_within(image: &[u8], types: &mut [u8], work: &mut [u8]) -> Result<usize, Refusal>
     requires { (256 ≤ length types.old) × (40960 ≤ length work.old) }
     ensures { Comes image.now types.old work.old result types.new work.new }
 {
     reading::image::read_image(image)?;
-    let outermost = Scope {
-        vars: 0,
-        locks: 0,
-        left: 64,
-    };
-    typing::judge(image, 3, work, outermost)?;
+    typing::judge(image, 3, work, OUTERMOST)?;
     Ok(copies::give(work, 20736, types))
 }
 

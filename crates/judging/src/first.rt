@@ -1,5 +1,7 @@
 // After the first part: its type stands in the slot one deeper. What is left in the own slot is what the next part needs of it; or the expression's
 // type where there is no next part, and then the answer is the expression's, which ends where the part does.
+// work and left stay apart, here and in second.rt: between two steps a rule lends work to the judge, so that a struct of both would be made anew for
+// each step.
 ghost use Rattle.std.specs.Prelude.{◌≡◌, ◌+◌, ◌-◌};
 ghost use Rattle.codes.specs.Codes.{type_byte};
 ghost use Rattle.judging.specs.Copies.{Ends};

@@ -21,7 +21,7 @@ fn shifted(m: u32, k: u8) -> u32
     requires { (k ≤ 32) × (m * 2 ^ k < 4294967296) }
     ensures { result ≡ m * 2 ^ k }
 {
-    ((m as u64) << k) as u32
+    (u64::from(m) << k) as u32
 }
 
 // The set at `at`, k names higher.

@@ -1,7 +1,9 @@
 // The typing: a function a rule, which calls the judge on the expression's parts from left to right, with what is left of the nesting falling at
 // each call. The code is looked at once, and each rule is called from one place, so that the compiler takes it into the judge. a, b and c are what
 // the parts come to. The rules with two parts differ in the test and in the last step, which are two of their five lines: one function for them, with
-// closures for the two, would be no shorter. What a part stands under is written whole: a struct with ghost facts takes no `..`.
+// closures for the two, would be no shorter.
+// img, at, work and scope stay apart: img is lent to be read and work to be written, `skip` and `related` take now the one and now the other, and at
+// and scope are others at each call, so that a struct of the four would be taken apart in each rule.
 ghost use Rattle.judging.specs.Contract.{Coded, ReadyUnder, FindsUnder};
 
 use crate::binding::{argument, bind, new_name, number, unit, variable};
@@ -9,6 +11,7 @@ use crate::copies;
 use crate::first::{
     first_cell, first_due, first_fork, first_int, first_lam, first_lock, first_read,
 };
+use crate::scope::{bound, locked, part};
 use crate::second::{
     after_third, second_add, second_app, second_cond, second_last, second_sync, second_write,
 };
@@ -23,11 +26,7 @@ fn function(img: &[u8], at: usize, work: &mut [u8], scope: Scope) -> Result<Type
     requires { Coded img.now work.old at scope 4 }
     ensures { FindsUnder img.now work.old work.new at scope result }
 {
-    let inner = Scope {
-        vars: scope.vars + 1,
-        locks: scope.locks,
-        left: scope.left - 1,
-    };
+    let inner = bound(scope);
     let p = argument(img, at, work, scope);
     let a = judge(img, p, work, inner)?;
     first_lam(img, at, p, work, scope.left, a)
@@ -39,11 +38,7 @@ fn apply(img: &[u8], at: usize, work: &mut [u8], scope: Scope) -> Result<Typed, 
     requires { Coded img.now work.old at scope 5 }
     ensures { FindsUnder img.now work.old work.new at scope result }
 {
-    let inner = Scope {
-        vars: scope.vars,
-        locks: scope.locks,
-        left: scope.left - 1,
-    };
+    let inner = part(scope);
     let a = judge(img, at + 1, work, inner)?;
     first_due(at + 1, work, scope.left, TypeCode::Function)?;
     let b = judge(img, a.end, work, inner)?;
@@ -56,11 +51,7 @@ fn new_cell(img: &[u8], at: usize, work: &mut [u8], scope: Scope) -> Result<Type
     requires { Coded img.now work.old at scope 6 }
     ensures { FindsUnder img.now work.old work.new at scope result }
 {
-    let inner = Scope {
-        vars: scope.vars,
-        locks: scope.locks,
-        left: scope.left - 1,
-    };
+    let inner = part(scope);
     let p = copies::skip(img, at + 2);
     let a = judge(img, p, work, inner)?;
     first_cell(img, at, p, work, scope.left, a)
@@ -72,11 +63,7 @@ fn read(img: &[u8], at: usize, work: &mut [u8], scope: Scope) -> Result<Typed, R
     requires { Coded img.now work.old at scope 7 }
     ensures { FindsUnder img.now work.old work.new at scope result }
 {
-    let inner = Scope {
-        vars: scope.vars,
-        locks: scope.locks,
-        left: scope.left - 1,
-    };
+    let inner = part(scope);
     let a = judge(img, at + 1, work, inner)?;
     first_read(at + 1, work, scope.left, a)
 }
@@ -87,11 +74,7 @@ fn write(img: &[u8], at: usize, work: &mut [u8], scope: Scope) -> Result<Typed, 
     requires { Coded img.now work.old at scope 8 }
     ensures { FindsUnder img.now work.old work.new at scope result }
 {
-    let inner = Scope {
-        vars: scope.vars,
-        locks: scope.locks,
-        left: scope.left - 1,
-    };
+    let inner = part(scope);
     let a = judge(img, at + 1, work, inner)?;
     first_due(at + 1, work, scope.left, TypeCode::Ref)?;
     let b = judge(img, a.end, work, inner)?;
@@ -104,11 +87,7 @@ fn fork(img: &[u8], at: usize, work: &mut [u8], scope: Scope) -> Result<Typed, R
     requires { Coded img.now work.old at scope 9 }
     ensures { FindsUnder img.now work.old work.new at scope result }
 {
-    let inner = Scope {
-        vars: scope.vars,
-        locks: scope.locks,
-        left: scope.left - 1,
-    };
+    let inner = part(scope);
     let a = judge(img, at + 1, work, inner)?;
     first_fork(at, work, scope.left, a)
 }
@@ -120,11 +99,7 @@ fn new_lock(img: &[u8], at: usize, work: &mut [u8], scope: Scope) -> Result<Type
     ensures { FindsUnder img.now work.old work.new at scope result }
 {
     new_name(img, at, work, scope);
-    let inner = Scope {
-        vars: scope.vars + 1,
-        locks: scope.locks + 1,
-        left: scope.left - 1,
-    };
+    let inner = locked(scope);
     let a = judge(img, at + 1, work, inner)?;
     first_lock(at, work, scope.left, a)
 }
@@ -135,11 +110,7 @@ fn section(img: &[u8], at: usize, work: &mut [u8], scope: Scope) -> Result<Typed
     requires { Coded img.now work.old at scope 11 }
     ensures { FindsUnder img.now work.old work.new at scope result }
 {
-    let inner = Scope {
-        vars: scope.vars,
-        locks: scope.locks,
-        left: scope.left - 1,
-    };
+    let inner = part(scope);
     let a = judge(img, at + 1, work, inner)?;
     first_due(at + 1, work, scope.left, TypeCode::Lock)?;
     let b = judge(img, a.end, work, inner)?;
@@ -152,23 +123,10 @@ fn let_in(img: &[u8], at: usize, work: &mut [u8], scope: Scope) -> Result<Typed,
     requires { Coded img.now work.old at scope 12 }
     ensures { FindsUnder img.now work.old work.new at scope result }
 {
-    let inner = Scope {
-        vars: scope.vars,
-        locks: scope.locks,
-        left: scope.left - 1,
-    };
+    let inner = part(scope);
     let a = judge(img, at + 1, work, inner)?;
     bind(img, at, work, scope);
-    let b = judge(
-        img,
-        a.end,
-        work,
-        Scope {
-            vars: scope.vars + 1,
-            locks: scope.locks,
-            left: scope.left - 1,
-        },
-    )?;
+    let b = judge(img, a.end, work, bound(scope))?;
     Ok(second_last(work, scope.left, a, b))
 }
 
@@ -178,11 +136,7 @@ fn then(img: &[u8], at: usize, work: &mut [u8], scope: Scope) -> Result<Typed, R
     requires { Coded img.now work.old at scope 13 }
     ensures { FindsUnder img.now work.old work.new at scope result }
 {
-    let inner = Scope {
-        vars: scope.vars,
-        locks: scope.locks,
-        left: scope.left - 1,
-    };
+    let inner = part(scope);
     let a = judge(img, at + 1, work, inner)?;
     let b = judge(img, a.end, work, inner)?;
     Ok(second_last(work, scope.left, a, b))
@@ -194,11 +148,7 @@ fn add(img: &[u8], at: usize, work: &mut [u8], scope: Scope) -> Result<Typed, Re
     requires { Coded img.now work.old at scope 14 }
     ensures { FindsUnder img.now work.old work.new at scope result }
 {
-    let inner = Scope {
-        vars: scope.vars,
-        locks: scope.locks,
-        left: scope.left - 1,
-    };
+    let inner = part(scope);
     let a = judge(img, at + 1, work, inner)?;
     first_int(at + 1, work, scope.left)?;
     let b = judge(img, a.end, work, inner)?;
@@ -211,11 +161,7 @@ fn conditional(img: &[u8], at: usize, work: &mut [u8], scope: Scope) -> Result<T
     requires { Coded img.now work.old at scope 15 }
     ensures { FindsUnder img.now work.old work.new at scope result }
 {
-    let inner = Scope {
-        vars: scope.vars,
-        locks: scope.locks,
-        left: scope.left - 1,
-    };
+    let inner = part(scope);
     let p = copies::skip(img, at + 1);
     let a = judge(img, p, work, inner)?;
     first_int(p, work, scope.left)?;

@@ -1,10 +1,12 @@
 -- One law for each way round a test or a loop over digits, which has come to i.
-use Rattle.std.specs.Prelude.{Option, Some, None, true, false, ◌&&◌, List, [], ◌∷◌, ◌≡◌, refl, ℕ, zero, suc, ◌+◌, ◌*◌, ◌-◌, ◌/◌, ◌%◌, ◌≤◌, ◌<◌, leb, length, get_or, drop, set, Bool, is_some}
+use Rattle.std.specs.Prelude.{Option, Some, None, true, false, ◌&&◌, List, [], ◌∷◌, ◌≡◌, refl, ℕ, zero, suc, ◌+◌, ◌*◌, ◌-◌, ◌/◌, ◌%◌, ◌≤◌, ◌<◌, leb, length, get_or, drop, set, ◌++◌, Bool, is_some}
 use Rattle.std.proofs.Common.{ap, sym, ◌∙◌, arith, add-one, zero-add, drop_of_length-le, drop-cons}
 use borrow.Author.Tests.{le-leb, lt-leb, eq-eqb, ne_eqb}
 use Rattle.std.specs.List.{list_all}
 use Rattle.std.proofs.lemmas.Bool.{leb-true}
 use Rattle.std.proofs.lemmas.List.Recursion.{and_at}
+use Rattle.std.proofs.lemmas.List.{get_or-drop, drop-drop, drop_at, length-append, length-drop}
+use Rattle.std.proofs.Math.ListN.{get_or-append}
 use Rattle.std.proofs.Math.Seq.{paste, paste-suc}
 use Rattle.std.proofs.lemmas.List.Edits.{length-paste}
 use Rattle.lines.specs.Digits.{choose, Digit, number_from, number_of, digit_of, all_digits, pair_of, spelled, is_hex, hex_says, hex_leaves, Hexed}
@@ -120,6 +122,23 @@ module _ (s out₀ out : List ℕ) (n i : ℕ) (e : out ≡ paste out₀ 0 (spel
       ap (λ (k : ℕ). set (paste out₀ 0 (spelled s) i) k (get_or (spelled s) i 0)) (sym (zero-add i))
       ∙ paste-suc out₀ 0 (spelled s) i 0 (omega arith) (omega (arith, spelled_length s n two)) in
       rw (e, g, k, add-one)
+
+-- the next two digits are taken from those behind the first k pairs
+module _ (s two rest rest' : List ℕ) (n k : ℕ) (r : rest ≡ drop (k + k) s) (q : rest ≡ two ++ rest') (l : length two ≡ 2) where
+  pub chunk_byte : (j : ℕ) → j < 2 → get_or two j 0 ≡ get_or s (k + k + j) 0
+  chunk_byte j h = sym (get_or-append two rest' 0 j (omega arith)) ∙ ap (λ (x : List ℕ). get_or x j 0) (sym q ∙ r) ∙ get_or-drop (k + k) s j 0
+
+  pub chunk_rest : rest' ≡ drop (k + 1 + (k + 1)) s
+  chunk_rest =
+      sym (drop_at two rest' 2 l) ∙ ap (drop 2) (sym q ∙ r) ∙ drop-drop 2 (k + k) s ∙ ap (λ (m : ℕ). drop m s) (omega arith)
+
+  pub chunk_pair : pair_of (get_or two 0 0) (get_or two 1 0) ≡ pair_of (get_or s (k + k) 0) (get_or s (k + k + 1) 0)
+  chunk_pair =
+      let z : k + k + 0 ≡ k + k = omega arith in
+      rw (chunk_byte 0 (omega arith), z, chunk_byte 1 (omega arith)) refl
+
+  pub chunk_in : n + n ≡ length s → k < n
+  chunk_in h = omega (arith, ap length (sym q ∙ r), length-append two rest', length-drop (k + k) s)
 
 pub ruleset spell_ways = (digits_at, spell_long, spell_ends)
 

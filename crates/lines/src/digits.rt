@@ -51,8 +51,8 @@ fn spell(s: &[u8], out: &mut [u8], n: usize)
     requires { (n + n ≡ length s.now) × (n ≤ length out.old) × (all_digits s.now ≡ true) }
     ensures { out.new ≡ paste out.old 0 (spelled s.now) n }
 {
-    for i in 0..n {
-        out[i] = pair(s[i + i], s[i + i + 1]);
+    for (i, two) in s.chunks_exact(2).enumerate() {
+        out[i] = pair(two[0], two[1]);
     }
 }
 

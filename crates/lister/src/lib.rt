@@ -111,7 +111,7 @@ pub fn next(image: &[u8], at: usize) -> Result<Option<Item>, Refusal>
 }
 
 // "a reader that knows the image and the place it has reached"
-#[derive(Clone, Copy)]
+#[derive(Clone, Copy, Debug, PartialEq, Eq)]
 pub struct Reader<'a> {
     pub image: &'a [u8],
     pub at: usize,

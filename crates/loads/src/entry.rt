@@ -60,7 +60,7 @@ fn judged_on(image: &[u8], state: &mut [u8], work: &mut [u8], card: Card) -> Res
 }
 
 // The raw load: an image and a state buffer.
-#[tactic(auto, unfolding(paper::specs::States::sixteen))]
+#[tactic(auto, using(laws::specs::Cards::sixteen_fits), unfolding(paper::specs::States::sixteen))]
 pub fn raw_load(image: &[u8], state: &mut [u8]) -> Result<(), Refusal>
     ensures { RawLoads image.now state.old result state.new }
 {
@@ -68,7 +68,7 @@ pub fn raw_load(image: &[u8], state: &mut [u8]) -> Result<(), Refusal>
 }
 
 // The judged load: an image, a state buffer and a work buffer.
-#[tactic(auto, unfolding(paper::specs::States::sixteen))]
+#[tactic(auto, using(laws::specs::Cards::sixteen_fits), unfolding(paper::specs::States::sixteen))]
 pub fn judged_load(image: &[u8], state: &mut [u8], work: &mut [u8]) -> Result<(), Refusal>
     ensures { JudgedLoads image.now state.old work.old result state.new work.new }
 {

@@ -1,5 +1,5 @@
 -- Each way of each kind of step: what the code found and did is the paper's move.
-use Rattle.std.specs.Prelude.{◌≡◌, ℕ, ◌+◌, ◌-◌, ◌*◌, ◌/◌, ◌%◌, ◌^◌, ◌<◌, ◌≤◌, Bool, true, false, List, [], ◌∷◌, ◌++◌, length, take, drop, ◌==◌, ◌≢◌, nat_le, nat_lt, slice_index, slice_index_or, Err, refl}
+use Rattle.std.specs.Prelude.{Option as Told, ◌≡◌, ℕ, ◌+◌, ◌-◌, ◌*◌, ◌/◌, ◌%◌, ◌^◌, ◌<◌, ◌≤◌, Bool, true, false, List, [], ◌∷◌, ◌++◌, length, take, drop, ◌==◌, ◌≢◌, nat_le, nat_lt, slice_index, slice_index_or, Err, refl}
 use Rattle.std.proofs.Common.{sym, ap₂, ◌∙◌, subst, append-nil, arith, length-take, length-drop, le-leb, lt-ltb, le-ltb, eq-eqb, ne_eqb}
 use Rattle.std.proofs.Math.Path.{ap}
 use Rattle.std.proofs.Math.Option.{Option, none, some}
@@ -47,7 +47,7 @@ module _ {card : Card} {S : State} {s : List ℕ} {room : ℕ} {out : List ℕ} 
 -- ---- a value put into a part of s
 
 module _ {s st : List ℕ} (short : Short s st) {before after st' : List ℕ} where
-  put_made : (a b : ℕ) {v : List ℕ} {r : ℕ} → Put (piece s a b) v before 0 after st st' r → (e x : Term) → piece s a b ≡ term_bytes e
+  put_made : (a b : ℕ) {v : List ℕ} {r : Told ℕ} → Put (piece s a b) v before 0 after st st' r → (e x : Term) → piece s a b ≡ term_bytes e
       → v ≡ term_bytes x → Became (term_bytes (put 0 x e)) (length before) after r
   put_made a b {v} w e x eb ev = wrote (put 0 x e) w.written is
     where
@@ -59,26 +59,26 @@ module _ {s st : List ℕ} (short : Short s st) {before after st' : List ℕ} wh
 
   -- ---- apply, let, new lock
 
-  pub apply_done : {g n : ℕ} → slice_index s 1 ≡ 4 → Put (piece s 2 g) (piece s g (length s)) before 0 after st st' n
+  pub apply_done : {g : ℕ} {n : Told ℕ} → slice_index s 1 ≡ 4 → Put (piece s 2 g) (piece s g (length s)) before 0 after st st' n
       → Applied s g (length before) after (going kind.Apply 0 n Nothing)
   apply_done {g} z w = record {
     does = λ card S a b x y.
         let f = function_there x z in
-        by_some (as_function a) _ f.0 f.1 (is_goes (put_made 2 g w f.0 b (part_bytes f.2) (part_bytes y)) is_nothing);
+        by_some (as_function a) _ f.0 f.1 (is_goes kind.Apply (put_made 2 g w f.0 b (part_bytes f.2) (part_bytes y)) is_nothing);
   }
 
-  pub bind_done : {g n : ℕ} → Put (piece s g (length s)) (piece s 1 g) before 0 after st st' n
+  pub bind_done : {g : ℕ} {n : Told ℕ} → Put (piece s g (length s)) (piece s 1 g) before 0 after st st' n
       → LetBound s g (length before) after (going kind.Let 0 n Nothing)
-  bind_done {g} w = record { does = λ card S a b x y. is_goes (put_made g (length s) w b a (part_bytes y) (part_bytes x)) is_nothing }
+  bind_done {g} w = record { does = λ card S a b x y. is_goes kind.Let (put_made g (length s) w b a (part_bytes y) (part_bytes x)) is_nothing }
 
-  pub lock_made_lem : {count most n : ℕ} → count < most → Put (piece s 1 (length s)) (16 ∷ count ∷ []) before 0 after st st' n
+  pub lock_made_lem : {count most : ℕ} {n : Told ℕ} → count < most → Put (piece s 1 (length s)) (16 ∷ count ∷ []) before 0 after st st' n
       → LockMade s count most (length before) after (going kind.LockMade count n NewLock)
   unfolding term_bytes
   lock_made_lem {count} {n = n} h w = record {
     does = λ card S e x c m.
         by_yes (nat_lt (length S.marks) card.locks) _ _ (lt-ltb (length S.marks) card.locks (omega arith))
         (subst (λ l. Means card S s (length before) after (going kind.LockMade count n NewLock) (goes 6 l (put 0 (Term.lock_at l) e) new_lock)) (sym c)
-        (is_goes (put_made 1 (length s) w e (Term.lock_at count) (part_bytes x) refl) (is_new_lock (omega arith))));
+        (is_goes kind.LockMade (put_made 1 (length s) w e (Term.lock_at count) (part_bytes x) refl) (is_new_lock (omega arith))));
   }
 
 pub apply_stuck : {s : List ℕ} {g room : ℕ} {out : List ℕ} → (slice_index s 1 ≢ 4) → Applied s g room out (Err IsStuck)
@@ -91,9 +91,9 @@ lock_full h = record {
 
 -- ---- then
 
-pub then_done : {s : List ℕ} {g n : ℕ} {before after : List ℕ} → Written (take 0 before ++ piece s g (length s)) before after n
+pub then_done : {s : List ℕ} {g : ℕ} {n : Told ℕ} {before after : List ℕ} → Written (take 0 before ++ piece s g (length s)) before after n
     → WentOn s g (length before) after (going kind.Then 0 n Nothing)
-then_done w = record { does = λ card S b y. is_goes (wrote b w (part_bytes y)) is_nothing }
+then_done w = record { does = λ card S b y. is_goes kind.Then (wrote b w (part_bytes y)) is_nothing }
 
 -- ---- new cell
 
@@ -111,7 +111,7 @@ module _ {s : List ℕ} {count most size room : ℕ} {out : List ℕ} where
         (by_no (nat_le (length (term_bytes a)) card.cell_bytes) _ _ (lt-leb (length (term_bytes a)) card.cell_bytes (omega arith)) is_long);
   }
 
-pub cell_made_lem : {s : List ℕ} {count most size n : ℕ} {before after : List ℕ} → count < most → length s - 1 ≤ size
+pub cell_made_lem : {s : List ℕ} {count most size : ℕ} {n : Told ℕ} {before after : List ℕ} → count < most → length s - 1 ≤ size
     → Written (take 0 before ++ (17 ∷ count ∷ [])) before after n → CellMade s count most size (length before) after (going kind.CellMade count n NewCell)
 unfolding term_bytes
 cell_made_lem {s} {count} {n = n} {before} {after} h l w = record {
@@ -120,7 +120,7 @@ cell_made_lem {s} {count} {n = n} {before} {after} h l w = record {
       by_yes (nat_lt (length S.cells) card.cells) _ _ (lt-ltb (length S.cells) card.cells (omega arith))
       (by_yes (nat_le (length (term_bytes a)) card.cell_bytes) _ _ (le-leb (length (term_bytes a)) card.cell_bytes (omega arith))
       (subst (λ j. Means card S s (length before) after (going kind.CellMade count n NewCell) (goes 2 j (Term.cell_at j) (new_cell a))) (sym c)
-      (is_goes (wrote (Term.cell_at count) w refl) (is_new_cell (omega arith) (omega arith) x))));
+      (is_goes kind.CellMade (wrote (Term.cell_at count) w refl) (is_new_cell (omega arith) (omega arith) x))));
 }
 
 -- ---- read
@@ -148,7 +148,7 @@ module _ {s state : List ℕ} {from size room : ℕ} {out : List ℕ} where
           absurd (omega arith);
     }
 
-pub read_done : {s state : List ℕ} {from size j n m : ℕ} {before after : List ℕ} → slice_index s 1 ≡ 17 → j ≡ at s 2
+pub read_done : {s state : List ℕ} {from size j n : ℕ} {m : Told ℕ} {before after : List ℕ} → slice_index s 1 ≡ 17 → j ≡ at s 2
     → n ≡ word16 state (70 + 2 * j) → Written (take 0 before ++ (piece state (from + size * j) (from + size * j + n))) before after m
     → CellRead s state from size (length before) after (going kind.Read j m Nothing)
 read_done {state = state} {from} {size} {j} {n} z ej en w = record {
@@ -159,7 +159,7 @@ read_done {state = state} {from} {size} {j} {n} z ej en w = record {
       let y = h.says in
       let k : from + size * j + n - (from + size * j) ≡ length (term_bytes v) = omega arith in
       by_some (as_cell a) _ j e
-      (is_goes (wrote v w (ap (λ i. take i (drop (from + size * j) state)) k ∙ h.bytes)) is_nothing);
+      (is_goes kind.Read (wrote v w (ap (λ i. take i (drop (from + size * j) state)) k ∙ h.bytes)) is_nothing);
 }
 
 -- ---- write
@@ -176,7 +176,7 @@ module _ {s : List ℕ} {g size room : ℕ} {out : List ℕ} where
         (by_no (nat_le (length (term_bytes b)) card.cell_bytes) _ _ (lt-leb (length (term_bytes b)) card.cell_bytes (omega arith)) is_long);
   }
 
-pub write_done : {s : List ℕ} {g size j n : ℕ} {before after : List ℕ} → slice_index s 1 ≡ 17 → j ≡ at s 2 → length s - g ≤ size
+pub write_done : {s : List ℕ} {g size j : ℕ} {n : Told ℕ} {before after : List ℕ} → slice_index s 1 ≡ 17 → j ≡ at s 2 → length s - g ≤ size
     → Written (take 0 before ++ (1 ∷ [])) before after n → CellWritten s g size (length before) after (going kind.Write j n (SetCell j g))
 unfolding term_bytes
 write_done {j = j} z ej l w = record {
@@ -184,7 +184,7 @@ write_done {j = j} z ej l w = record {
       let t = y.to in
       by_some (as_cell a) _ j (cell_there x z ∙ ap some (sym ej))
       (by_yes (nat_le (length (term_bytes b)) card.cell_bytes) _ _ (le-leb (length (term_bytes b)) card.cell_bytes (omega arith))
-      (is_goes (wrote Term.unit w refl) (is_set_cell (omega arith) y)));
+      (is_goes kind.Write (wrote Term.unit w refl) (is_set_cell (omega arith) y)));
 }
 
 -- ---- fork
@@ -200,13 +200,13 @@ a_place card S h = rw (lt-ltb (length S.threads) card.threads h)
 pub fork_full : {s : List ℕ} {count most room : ℕ} {out : List ℕ} → most ≤ count → Forked s count most room out (Err TooMany)
 fork_full h = record { does = λ card S e x c m. by_no_place (new_place card S) e (no_place card S (omega arith)) is_full }
 
-pub fork_done : {s : List ℕ} {count most n : ℕ} {before after : List ℕ} → count < most → Written (take 0 before ++ (1 ∷ [])) before after n
+pub fork_done : {s : List ℕ} {count most : ℕ} {n : Told ℕ} {before after : List ℕ} → count < most → Written (take 0 before ++ (1 ∷ [])) before after n
     → Forked s count most (length before) after (going kind.Fork count n (NewThread count))
 unfolding term_bytes
 fork_done {count = count} h w = record {
   does = λ card S e x c m.
       let z : new_place card S ≡ some count = a_place card S (omega arith) ∙ ap some c in
-      by_place (new_place card S) e count z (is_goes (wrote Term.unit w refl) (is_new_thread (omega arith) x));
+      by_place (new_place card S) e count z (is_goes kind.Fork (wrote Term.unit w refl) (is_new_thread (omega arith) x));
 }
 
 -- ---- take and release
@@ -223,7 +223,7 @@ module _ {s : List ℕ} {g : ℕ} {state : List ℕ} where
           by_some (as_lock a) _ l e (by_no (at S.marks l == 0) _ _ (ne_eqb (at S.marks l) 0 (λ k. n (m l e ∙ k))) is_waits);
     }
 
-    pub take_done : {n : ℕ} {before after : List ℕ} → at state (6 + l) ≡ 0
+    pub take_done : {n : Told ℕ} {before after : List ℕ} → at state (6 + l) ≡ 0
         → Written (take 0 before ++ ((18 ∷ l ∷ []) ++ piece s g (length s))) before after n
         → LockTaken s g state (length before) after (going kind.Take l n (Taken l))
     unfolding term_bytes
@@ -232,15 +232,15 @@ module _ {s : List ℕ} {g : ℕ} {state : List ℕ} where
           let e = lock_there x z ∙ ap some (sym el) in
           by_some (as_lock a) _ l e
           (by_yes (at S.marks l == 0) _ _ (eq-eqb (at S.marks l) 0 (sym (m l e) ∙ k))
-          (is_goes (wrote (Term.inside l b) w (ap (λ c. 18 ∷ l ∷ c) (part_bytes y))) is_taken));
+          (is_goes kind.Take (wrote (Term.inside l b) w (ap (λ c. 18 ∷ l ∷ c) (part_bytes y))) is_taken));
     }
 
-pub release_done : {s : List ℕ} {l n : ℕ} {before after : List ℕ} → l ≡ at s 1 → Written (take 0 before ++ piece s 2 (length s)) before after n
+pub release_done : {s : List ℕ} {l : ℕ} {n : Told ℕ} {before after : List ℕ} → l ≡ at s 1 → Written (take 0 before ++ piece s 2 (length s)) before after n
     → LockReleased s (length before) after (going kind.Release l n (Released l))
 release_done {s} {l} {n} {before} {after} el w = record {
   does = λ card S k e x h.
       subst (λ j. Means card S s (length before) after (going kind.Release l n (Released l)) (goes 8 j e (released j))) (el ∙ h)
-      (is_goes (wrote e w (part_bytes x)) is_released);
+      (is_goes kind.Release (wrote e w (part_bytes x)) is_released);
 }
 
 -- ---- add and if
@@ -254,7 +254,7 @@ module _ {s : List ℕ} {g : ℕ} where
     does = λ card S a b x y k l. by_some (as_number a) _ (word32 s 2) (number_there x z k) (by_none (as_number b) _ (not_number y n) refl);
   }
 
-  pub add_done : {n m : ℕ} {before after : List ℕ} → slice_index s 1 ≡ 2 → slice_index s g ≡ 2 → n ≡ (word32 s 2 + word32 s (g + 1)) % 2 ^ 32
+  pub add_done : {n : ℕ} {m : Told ℕ} {before after : List ℕ} → slice_index s 1 ≡ 2 → slice_index s g ≡ 2 → n ≡ (word32 s 2 + word32 s (g + 1)) % 2 ^ 32
       → Written (take 0 before ++ (2 ∷ n / 16777216 % 256 ∷ n / 65536 % 256 ∷ n / 256 % 256 ∷ n % 256 ∷ [])) before after m
       → Added s g (length before) after (going kind.Add 0 m Nothing)
   unfolding term_bytes bytes4
@@ -262,21 +262,21 @@ module _ {s : List ℕ} {g : ℕ} where
     does = λ card S a b x u k l.
         by_some (as_number a) _ (word32 s 2) (number_there x y k)
         (by_some (as_number b) _ (word32 s (g + 1)) (number_there u z l)
-        (is_goes (wrote (Term.num _) w (ap (λ i. term_bytes (Term.num i)) e)) is_nothing));
+        (is_goes kind.Add (wrote (Term.num _) w (ap (λ i. term_bytes (Term.num i)) e)) is_nothing));
   }
 
 module _ {s : List ℕ} {g h : ℕ} where
   pub branch_stuck : {room : ℕ} {out : List ℕ} → (slice_index s 1 ≢ 2) → Branched s g h room out (Err IsStuck)
   branch_stuck n = record { does = λ card S a b e x y z k. by_none (as_number a) _ (not_number x n) refl }
 
-  module _ {before after : List ℕ} {m n : ℕ} (t : slice_index_or s 1 0 ≡ 2) (en : n ≡ word32 s 2) where
+  module _ {before after : List ℕ} {m : Told ℕ} {n : ℕ} (t : slice_index_or s 1 0 ≡ 2) (en : n ≡ word32 s 2) where
     pub branch_else : n ≡ 0 → Written (take 0 before ++ piece s h (length s)) before after m
         → Branched s g h (length before) after (going kind.If 0 m Nothing)
     branch_else e0 w = record {
       does = λ card S a b e x y z k.
           by_some (as_number a) _ n (number_there x t k ∙ ap some (sym en))
           (subst (λ c. Means card S s (length before) after (going kind.If 0 m Nothing) (goes 12 0 (choose c (λ _. e) (λ _. b)) nothing)) (sym (eq-eqb n 0 e0))
-          (is_goes (wrote e w (part_bytes z)) is_nothing));
+          (is_goes kind.If (wrote e w (part_bytes z)) is_nothing));
     }
 
     pub branch_then : (n ≢ 0) → Written (take 0 before ++ piece s g h) before after m
@@ -285,5 +285,5 @@ module _ {s : List ℕ} {g h : ℕ} where
       does = λ card S a b e x y z k.
           by_some (as_number a) _ n (number_there x t k ∙ ap some (sym en))
           (subst (λ c. Means card S s (length before) after (going kind.If 0 m Nothing) (goes 12 0 (choose c (λ _. e) (λ _. b)) nothing)) (sym (ne_eqb n 0 e0))
-          (is_goes (wrote b w (part_bytes y)) is_nothing));
+          (is_goes kind.If (wrote b w (part_bytes y)) is_nothing));
     }

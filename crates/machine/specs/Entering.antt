@@ -1,6 +1,6 @@
 -- From a buffer that holds a state to thread i of it, and to the part of it that is due: its bytes, copied aside.
-use Rattle.std.specs.Prelude.{◌≡◌, ℕ, ◌+◌, ◌-◌, ◌*◌, ◌<◌, ◌≤◌, Bool, true, false, List, ◌++◌, length, take, drop, slice_index, slice_index_or, refl, Err}
-use Rattle.std.proofs.Common.{sym, ap, ◌∙◌, subst, append_assoc, le_refl, le_trans, le_of_lt, add-le-add, arith, lit<, drop-drop, le-leb, Fits}
+use Rattle.std.specs.Prelude.{Option, Some, None, IsSome, ◌≡◌, ℕ, ◌+◌, ◌-◌, ◌*◌, ◌<◌, ◌≤◌, Bool, true, false, List, ◌++◌, length, take, drop, slice_index, slice_index_or, refl, Err}
+use Rattle.std.proofs.Common.{sym, ap, ◌∙◌, subst, append_assoc, le_refl, le_trans, le_of_lt, add-le-add, arith, lit<, drop-drop, Fits}
 use Rattle.std.proofs.lemmas.List.{drop-append-le}
 use Rattle.std.specs.Int.{w64}
 use Rattle.paper.specs.Base.{at, word16}
@@ -16,7 +16,7 @@ use Rattle.slots.specs.Codes.{is_value}
 use Rattle.slots.specs.Put.{piece}
 use Rattle.slots.specs.TermAt.{some_bytes, value_at}
 use Rattle.slots.specs.WayTerm.{found}
-use Rattle.writing.specs.Written.{Written, room_for}
+use Rattle.writing.specs.Written.{Written}
 use Rattle.machine.specs.declared.step.Due.{Due}
 use Rattle.machine.specs.declared.answer.NoStep.TheVariants.{NoSuchThread, IsFinished}
 use Rattle.machine.specs.Means.{Part, part_bytes, part_cut, became}
@@ -33,12 +33,9 @@ value_rests card S v_lock = refl
 value_rests card S v_cell = refl
 
 -- bytes that have room stand first, all of them
-all_of : {res before after : List ℕ} {r n : ℕ} → Written res before after r → length before ≡ n → length res ≤ n → (r ≤ n) × (take r after ≡ res)
-unfolding room_for
-all_of {res} {before} {r = r} w l h =
-    let k : length res ≤ length before = omega arith in
-    let e : r ≡ length res = w.says ∙ rw (le-leb (length res) (length before) k) in
-    (omega arith, ((became w).fits (omega arith)).0)
+some_of : {res before after : List ℕ} {r : Option ℕ} {n : ℕ} → Written res before after r → length before ≡ n → length res ≤ n → IsSome r
+some_of {r = Some m} w l h = refl
+some_of {r = None} w l h = let b = (became w).short refl in absurd (omega arith)
 
 module _ {card : Card} {state : List ℕ} (w : Held card state) {i count : ℕ} (c : count ≡ at state 3) where
   pub held_nobody : count ≤ i → Answers card state i state (Err NoSuchThread)
@@ -137,24 +134,31 @@ module _ {card : Card} {state : List ℕ} (w : Held card state) {i count : ℕ} 
               to = omega (arith, there.to);
             }
 
-        module _ {before old : List ℕ} {r : ℕ}
+        module _ {before old : List ℕ} {r : Option ℕ}
             (x : Written (piece state (256 + card.thread_bytes * i + d.from) (256 + card.thread_bytes * i + d.to)) before old r)
             (l : length before ≡ 2048) where
           y : Written (term_bytes (found thread).redex) before old r
           y = subst (λ b. Written b before old r) (part_bytes within) x
 
-          pub held_all : r ≤ 2048
-          held_all = let all = (all_of y l (let p = part_cut there in let t = there.to in let s = w.short in omega (arith, slot.fits))).0 in omega arith
+          small : length (term_bytes (found thread).redex) ≤ 2048
+          small = let k = part_cut there in let t = there.to in let s = w.short in omega (arith, slot.fits)
 
-          pub held_running : {v : Bool} {out : List ℕ} → v ≡ is_value (slice_index state (256 + card.thread_bytes * i)) → v ≡ false
-              → length out ≡ 2048 → Running card state i d (take r old) out
-          held_running v e o =
-              let s = w.short in
-              record {
-                base = w;
-                here = here;
-                going = value_is v ∙ e;
-                parted = parted;
-                bytes = (all_of y l (let k = part_cut there in let t = there.to in omega (arith, slot.fits))).1;
-                room = omega arith;
-              }
+          pub held_some : IsSome r
+          held_some = some_of y l small
+
+          module _ {m : ℕ} (q : r ≡ Some m) where
+            pub held_all : m ≤ 2048
+            held_all = let all = ((became y).fits q).all in omega (arith, small)
+
+            pub held_running : {v : Bool} {out : List ℕ} → v ≡ is_value (slice_index state (256 + card.thread_bytes * i)) → v ≡ false
+                → length out ≡ 2048 → Running card state i d (take m old) out
+            held_running v e o =
+                let s = w.short in
+                record {
+                  base = w;
+                  here = here;
+                  going = value_is v ∙ e;
+                  parted = parted;
+                  bytes = ((became y).fits q).bytes;
+                  room = omega arith;
+                }

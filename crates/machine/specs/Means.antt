@@ -1,16 +1,15 @@
 -- What an answer of the code means as a move of the paper.
-use Rattle.std.specs.Prelude.{◌≡◌, ℕ, ◌+◌, ◌-◌, ◌*◌, ◌<◌, ◌≤◌, Bool, true, false, List, ◌++◌, length, take, drop, nat_le, Result, Ok, Err}
+use Rattle.std.specs.Prelude.{◌≡◌, ℕ, ◌+◌, ◌-◌, ◌*◌, ◌<◌, ◌≤◌, List, ◌++◌, length, take, drop, Option, Some, None, Result, Ok, Err}
 use Rattle.std.proofs.Math.Path.{refl, ap}
 use Rattle.std.proofs.Common.{◌∙◌, subst, arith, length-append, length-drop}
 use Rattle.std.proofs.Math.Seq.{take-append_seam}
-use borrow.Author.Tests.{leb-true, leb-false, le-leb}
 use Rattle.paper.specs.Terms.{Term, term_bytes}
 use Rattle.paper.specs.States.{State, Card}
 use Rattle.paper.specs.Steps.{Change, nothing, new_cell, set_cell, new_lock, taken, released, new_thread}
 use Rattle.paper.specs.Steps.{Move, waits, stuck, full, long, goes}
 use Rattle.paper.specs.Calls.{laid}
 use Rattle.slots.specs.Put.{piece}
-use Rattle.writing.specs.Written.{Written, written_fits, written_behind, stands_none, room_for}
+use Rattle.writing.specs.Written.{Written, written_fits, written_long, written_behind, stands_none}
 use Rattle.slots.specs.TermAt.{some_bytes, stands}
 use Rattle.machine.specs.Cuts.{Cut}
 use Rattle.machine.specs.Answer.{kind_number}
@@ -49,30 +48,28 @@ module _ {s : List ℕ} {a b : ℕ} {v : Term} (h : Part s a b v) where
 
 -- ---- what the part becomes
 
--- `res` stands first in the bytes left in a buffer of `room` bytes, r of them; or it does not fit
-pub record Became (res : List ℕ) (room : ℕ) (out : List ℕ) (r : ℕ) : Type 0 where
-  pub fits : r ≤ room → (take r out ≡ res) × (r ≡ length res)
-  pub short : room < r → room < length res
+-- `res` stands first in `out`, n bytes
+pub record First (res out : List ℕ) (n : ℕ) : Type 0 where
+  pub bytes : take n out ≡ res
+  pub all : n ≡ length res
 
-module _ {res before after : List ℕ} {r : ℕ} (w : Written res before after r) where
+-- it stands so in the bytes left in a buffer of `room` bytes; or it does not fit
+pub record Became (res : List ℕ) (room : ℕ) (out : List ℕ) (r : Option ℕ) : Type 0 where
+  pub fits : {n : ℕ} → r ≡ Some n → First res out n
+  pub short : r ≡ None → room < length res
+
+module _ {res before after : List ℕ} {r : Option ℕ} (w : Written res before after r) where
   pub became : Became res (length before) after r
-  unfolding laid room_for
+  unfolding laid
   became = record {
-    fits = λ h.
-        let f = written_fits w h in
-        (ap (λ k. take k after) f.all ∙ ap (take (length res)) f.bytes ∙ take-append_seam res (drop (length res) before), f.all);
-    short = λ h. go (nat_le (length res) (length before)) refl h;
+    fits = λ e.
+        let f = written_fits w e in
+        record { bytes = ap (λ k. take k after) f.all ∙ ap (take (length res)) f.bytes ∙ take-append_seam res (drop (length res) before); all = f.all };
+    short = written_long w;
   }
-    where
-      go : (b : Bool) → nat_le (length res) (length before) ≡ b → length before < r → length before < length res
-      go true e h =
-          let l = leb-true (length res) (length before) e in
-          let n : r ≡ length res = w.says ∙ rw (le-leb (length res) (length before) l) in
-          absurd (omega arith)
-      go false e h = leb-false (length res) (length before) e
 
 -- the bytes of a term, written first
-pub wrote : {mid : List ℕ} (x : Term) {before after : List ℕ} {r : ℕ} → Written (take 0 before ++ mid) before after r → mid ≡ term_bytes x
+pub wrote : {mid : List ℕ} (x : Term) {before after : List ℕ} {r : Option ℕ} → Written (take 0 before ++ mid) before after r → mid ≡ term_bytes x
     → Became (term_bytes x) (length before) after r
 wrote {mid} x {before} {after} {r} w e =
     became (subst (λ y. Written y before after r) e (written_behind (stands_none before) mid w))
@@ -82,8 +79,9 @@ wrote {mid} x {before} {after} {r} w e =
 abbrev pub Act : Type 0
 Act = Result Goes NoStep
 
-abbrev pub going : Kind → ℕ → ℕ → Also → Act
-going k n r a = Ok (record { made = record { kind = k; number = n }; size = r; also = a })
+-- it goes on, where there is room for what the part becomes
+unfoldable pub going : Kind → ℕ → Option ℕ → Also → Act
+going k n r a = elim r [ Some m ↦ Ok (record { made = record { kind = k; number = n }; size = m; also = a }) | None ↦ Err TooLong ]
 
 -- what else changes, with the room that the card has for it
 pub data Changes (card : Card) (S : State) (s : List ℕ) : Also → Change → Type 0 where
@@ -102,5 +100,13 @@ pub data Means (card : Card) (S : State) (s : List ℕ) (room : ℕ) (out : List
   is_full : Means card S s room out (Err TooMany) full
   is_long : Means card S s room out (Err TooLong) long
   is_waits : {l : ℕ} → Means card S s room out (Err (WaitsFor l)) (waits l)
-  is_goes : {k : Kind} {n r : ℕ} {x : Term} {a : Also} {c : Change} → Became (term_bytes x) room out r → Changes card S s a c
+  is_made : {k : Kind} {n m : ℕ} {x : Term} {a : Also} {c : Change} → First (term_bytes x) out m → Changes card S s a c
+      → Means card S s room out (Ok (record { made = record { kind = k; number = n }; size = m; also = a })) (goes (kind_number k) n x c)
+  is_over : {k n : ℕ} {x : Term} {c : Change} → room < length (term_bytes x) → Means card S s room out (Err TooLong) (goes k n x c)
+
+module _ {card : Card} {S : State} {s : List ℕ} {room : ℕ} {out : List ℕ} where
+  pub is_goes : (k : Kind) {n : ℕ} {r : Option ℕ} {x : Term} {a : Also} {c : Change} → Became (term_bytes x) room out r → Changes card S s a c
       → Means card S s room out (going k n r a) (goes (kind_number k) n x c)
+  unfolding going
+  is_goes k {r = Some m} b h = is_made (b.fits refl) h
+  is_goes k {r = None} b h = is_over (b.short refl)

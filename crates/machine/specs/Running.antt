@@ -1,7 +1,7 @@
 -- The step by the part of a thread that is due, its bytes copied aside: each way of the code, as the paper's call.
-use Rattle.std.specs.Prelude.{◌≡◌, ℕ, ◌+◌, ◌-◌, ◌*◌, ◌<◌, ◌≤◌, max, true, false, ◌⊎◌, List, [], ◌++◌, length, get_or, take, drop, slice_index_or, refl, Ok, Err}
+use Rattle.std.specs.Prelude.{◌≡◌, ℕ, ◌+◌, ◌-◌, ◌*◌, ◌<◌, ◌≤◌, max, true, false, List, [], ◌++◌, length, get_or, take, drop, slice_index_or, refl, Ok, Err}
 use Rattle.std.proofs.Math.Path.{sym, ap, subst}
-use Rattle.std.proofs.Common.{◌∙◌, inl, inr, append-nil, zero-add}
+use Rattle.std.proofs.Common.{◌∙◌, append-nil, zero-add}
 use native.Mathlib.Omega.{arith}
 use Rattle.std.proofs.Math.ListN.{length-append}
 use Rattle.paper.specs.Terms.{Term, term_bytes, value}
@@ -12,7 +12,6 @@ use Rattle.paper.specs.Cases.{told}
 use Rattle.laws.specs.Lists.{all_get, spliced}
 use Rattle.laws.specs.Good.{good_whole}
 use Rattle.laws.specs.Keeping.{here_at}
-use Rattle.places.specs.Cases.{side}
 use Rattle.plans.specs.Reads.{Filled, thread_read}
 use Rattle.plans.specs.Store.{Stores}
 use Rattle.plans.specs.Exchange.{Exchanges}
@@ -28,7 +27,7 @@ use Rattle.machine.specs.declared.step.Due.{Due}
 use Rattle.machine.specs.declared.answer.NoStep.TheVariants.{TooLong}
 use Rattle.machine.specs.Answer.{kind_number}
 use Rattle.machine.specs.Cuts.{Cut}
-use Rattle.machine.specs.Means.{Part, part_bytes, part_cut, Became, Changes, Act, Means, is_stuck, is_full, is_long, is_waits, is_goes}
+use Rattle.machine.specs.Means.{Part, part_bytes, part_cut, First, Changes, Act, Means, is_stuck, is_full, is_long, is_waits, is_made, is_over}
 use Rattle.machine.specs.Cutting.{Redex}
 use Rattle.machine.specs.Acting.{Acts}
 use Rattle.machine.specs.Altering.{Altering, Alters}
@@ -41,12 +40,12 @@ record Went (card : Card) (S : State) (s : List ℕ) (room : ℕ) (out : List �
   term : Term
   change : Change
   move_is : m ≡ goes (kind_number g.made.kind) g.made.number term change
-  became : Became (term_bytes term) room out g.size
+  first : First (term_bytes term) out g.size
   changes : Changes card S s g.also change
 
 module _ {card : Card} {S : State} {s : List ℕ} {room : ℕ} {out : List ℕ} where
   went : {g : Goes} {m : Move} → Means card S s room out (Ok g) m → Went card S s room out g m
-  went (is_goes {x = x} {c = c} b h) = record { term = x; change = c; move_is = refl; became = b; changes = h }
+  went (is_made {x = x} {c = c} b h) = record { term = x; change = c; move_is = refl; first = b; changes = h }
 
 module _ {card : Card} {state : List ℕ} {i : ℕ} {d : Due} {s buffer : List ℕ} (w : Running card state i d s buffer) where
   S : State
@@ -172,6 +171,9 @@ module _ {card : Card} {state : List ℕ} {i : ℕ} {d : Due} {s buffer : List �
         go is_full q = record { says = step_full card fits state S holds i here (whole q) }
         go is_long q = record { says = step_long card fits state S holds i here (whole q) }
         go (is_waits {l = l}) q = record { says = step_waits card fits state S holds i here l (whole q) }
+        go (is_over {x = x} h) q =
+            let o = w.room in
+            record { says = step_outgrows card fits state S holds i here (whole q) (omega (arith, framed_length x, part_fits)) }
 
     -- ---- it goes on
 
@@ -186,20 +188,13 @@ module _ {card : Card} {state : List ℕ} {i : ℕ} {d : Due} {s buffer : List �
       unfolding in_place after
       next = whole on.move_is
 
-      became : Became (term_bytes on.term) (length buffer) out g.size
-      became = on.became
-
       grows : length (term_bytes after) + length s ≡ d.used + length (term_bytes on.term)
       unfolding after
       grows = framed_length on.term
 
       pub run_outgrows : card.thread_bytes - (d.used - length s) < g.size → Answers card state i state (Err TooLong)
       unfolding told thread
-      run_outgrows l = record { says = step_outgrows card fits state S holds i here next (go (side (length buffer) g.size)) }
-        where
-          go : (length buffer < g.size) ⊎ (g.size ≤ length buffer) → card.thread_bytes < length (term_bytes after)
-          go (inl h) = let b = became.short h in let o = w.room in omega (arith, grows, part_fits)
-          go (inr h) = let b = (became.fits h).1 in omega (arith, grows, part_fits, thread_fits)
+      run_outgrows l = record { says = step_outgrows card fits state S holds i here next (omega (arith, on.first.all, grows, part_fits, thread_fits)) }
 
       named : Named S on.change
       unfolding thread
@@ -213,27 +208,24 @@ module _ {card : Card} {state : List ℕ} {i : ℕ} {d : Due} {s buffer : List �
           { held = S; holds = holds; change = on.change; means = on.changes; named = named; thread = omega (arith, part_fits, thread_fits) }
 
       module _ (l : g.size ≤ card.thread_bytes - (d.used - length s)) where
-        room : g.size ≤ length buffer
-        room = let o = w.room in omega arith
-
         pub run_made : {between left : List ℕ} → length between ≡ length state → Alters card s g.also state between
             → Exchanges (256 + card.thread_bytes * i) d.used (38 + 2 * i) d.from d.to (take g.size out) between left
             → Answers card state i left (Ok g.made)
         unfolding told thread after
         run_made {between} {left} kept alters x =
-            let b = became.fits room in
+            let b = on.first in
             let base = 256 + card.thread_bytes * i in
             let changes = alters.does S holds on.change on.changes named (omega (arith, part_fits, thread_fits)) in
             let was : take d.used (drop base between) ≡ term_bytes thread =
             ap (λ z. take z (drop base between)) used ∙ thread_left card fits state S holds i here on.change between kept named changes in
             let new : spliced (take d.used (drop base between)) d.from d.to (take g.size out) ≡ term_bytes after =
-            ap (λ z. spliced z d.from d.to (take g.size out)) was ∙ ap (spliced (term_bytes thread) d.from d.to) b.0
+            ap (λ z. spliced z d.from d.to (take g.size out)) was ∙ ap (spliced (term_bytes thread) d.from d.to) b.bytes
             ∙ sym (framed on.term) in
             let c = cut in
             let f = slot.room in
             let stores = x.made (omega arith) (omega (arith, used)) (omega (arith, used, slot.fits)) in
             let stored = subst (λ z. Stores base (max d.used (length z)) (38 + 2 * i) z between left) new stores in
-            let short : length (term_bytes after) ≤ card.thread_bytes = omega (arith, b.1, grows, part_fits, thread_fits) in
+            let short : length (term_bytes after) ≤ card.thread_bytes = omega (arith, b.all, grows, part_fits, thread_fits) in
             let st = thread_restored card fits state S holds i here on.change kept named changes after (max d.used (length (term_bytes after)))
             (omega (arith, used)) (omega arith) (omega (arith, thread_fits)) stored in
             record { says = step_made card fits state S holds i here next short changes st }

@@ -8,15 +8,15 @@ ghost use Rattle.plans.specs.Card.{card_of};
 
 use crate::act::Goes;
 use crate::answer::NoStep;
-use crate::codes::{
-    ADD, APPLY, FORK, IF, LET, NEW_CELL, NEW_LOCK, OPEN, READ, SECTION, THEN, WRITE,
-};
 use crate::kinds::{
     add, apply, bind, branch, fork, make_cell, make_lock, read, release, take, went_on, write,
 };
 use crate::parts::Parts;
 use places::byte_at;
 use plans::card::Card;
+use slots::codes::{
+    ADD, APPLY, FORK, IF, LET, NEW_CELL, NEW_LOCK, OPEN, READ, SECTION, THEN, WRITE,
+};
 use slots::walk::skip;
 
 // Where the part behind the first begins, if that is not known already.

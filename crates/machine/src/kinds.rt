@@ -10,10 +10,10 @@ ghost use Rattle.machine.specs.Kinds.{LockTaken, LockReleased, WentOn, Added, Br
 
 use crate::act::{Also, Goes, goes_on};
 use crate::answer::{Kind, NoStep};
-use crate::codes::{CELL, FUNCTION, LOCK, NUMBER, OPEN, UNIT};
 use crate::parts::Parts;
 use places::{byte_at, two_at};
 use plans::card::Card;
+use slots::codes::{CELL, FUNCTION, LOCK, NUMBER, OPEN, UNIT};
 use slots::put::put;
 use writing::{fill, fill_both};
 
@@ -85,11 +85,8 @@ pub(crate) fn read(s: &[u8], state: &[u8], card: Card, out: &mut [u8]) -> Result
     let j = byte_at(s, 2);
     let slot = card.cell(j);
     let n = two_at(state, slot.place);
-    if slot.size < n {
-        return Err(NoStep::IsStuck);
-    }
     let end = slot.base + n;
-    if state.len() < end {
+    if slot.size < n || state.len() < end {
         return Err(NoStep::IsStuck);
     }
     let m = fill(&state[slot.base..end], out, 0);

@@ -5,7 +5,6 @@
 
 pub mod answer; // answer.rt: what a step answers
 mod act; // act.rt: what a step can be
-mod codes; // codes.rt: the codes by name
 mod parts; // parts.rt: a part with two parts of its own
 mod kinds; // kinds.rt: the kinds of step, on the bytes of the part that makes it
 mod dispatch; // dispatch.rt: from the code to the kind

@@ -17,7 +17,7 @@ use slots::way::place;
 use writing::fill;
 
 // The part of a thread of `used` bytes that makes its next step: from and to, and where its own second part begins in it, if that is known.
-#[derive(Clone, Copy)]
+#[derive(Clone, Copy, Debug, PartialEq, Eq)]
 struct Due {
     used: usize,
     from: usize,
@@ -100,6 +100,6 @@ pub(crate) fn step_held(
     let from = slot.base + due.from;
     let to = slot.base + due.to;
     let Scratch { old, out, stack } = scratch;
-    let m = fill(&state[from..to], old, 0);
+    let m = fill(&state[from..to], old, 0).unwrap(); // no thread is longer than `old`
     run_part(state, i, card, due, &old[..m], out, stack)
 }

@@ -10,9 +10,10 @@ ghost use Rattle.reading.specs.Contract.{function_fields, cell_fields, first_par
 use crate::scope::Scope;
 use answers::Refusal;
 use codes::ExpCode;
-use types::stated::{has_four, read_name, read_set, read_stated};
+use types::stated::{has_four, read_below, read_name, read_set, read_stated};
 
 // An expression before its last part: read whole, where it has none, with the place after it; or the last part's place, and what that stands under.
+// No ControlFlow (d): `Break(p)` and `Continue((p, under))` don't say what p is the place of.
 #[derive(Clone, Copy, Debug, PartialEq, Eq)]
 pub(crate) enum Lead {
     Whole(usize),
@@ -34,15 +35,7 @@ fn read_number(s: &[u8], at: usize) -> Result<usize, Refusal>
 fn read_index(s: &[u8], at: usize, vars: u8) -> Result<usize, Refusal>
     ensures { said result ≡ told (index s.now vars at) }
 {
-    if s.len() <= at {
-        return Err(Refusal::CutImage(s.len()));
-    }
-    let index = s[at];
-    if index < vars {
-        Ok(at + 1)
-    } else {
-        Err(Refusal::UnboundVariable(at))
-    }
+    read_below(s, at, vars, Refusal::UnboundVariable(at))
 }
 
 // A function's fields: the argument's type and the lock set.

@@ -9,10 +9,7 @@ use answers::Refusal;
 pub fn read_image(s: &[u8]) -> Result<usize, Refusal>
     ensures { ImageRead s.now result }
 {
-    if s.len() < 3 {
-        return Err(Refusal::UntrueLength);
-    }
-    if 4096 < s.len() {
+    if s.len() < 3 || 4096 < s.len() {
         return Err(Refusal::UntrueLength);
     }
     let follow = usize::from(u16::from_be_bytes([s[0], s[1]]));

@@ -1,8 +1,8 @@
 -- Answers that may be none. The definitions of this crate count in numbers where 0 is none; the code answers with an Option. A place is itself
 -- and never 0, as an expression takes a byte; a count or a number is one more than itself.
-use Rattle.std.specs.Prelude.{◌≡◌, refl, ℕ, zero, suc, ◌<◌, Bool, true, false, not, eqb, Option, Some, None, unwrap_or}
+use Rattle.std.specs.Prelude.{◌≡◌, refl, ℕ, zero, suc, ◌<◌, Bool, true, false, eqb, Option, Some, None, unwrap_or}
 use Rattle.std.specs.Option.{option_eq}
-use Rattle.std.proofs.Common.{sym, ap, ◌∙◌, arith, true≢false, ne_eqb}
+use Rattle.std.proofs.Common.{sym, ap, ◌∙◌, arith, ne_eqb}
 use borrow.Author.Tests.{eq-eqb, eqb-true, eqb-false}
 
 abbrev pub Answer : Type 0
@@ -51,12 +51,8 @@ one_more_eq (Some m) n = go (eqb m n) refl
     go true e = sym (eq-eqb _ _ (ap suc (eqb-true m n e)))
     go false e = sym (ne_eqb (suc m) (suc n) (λ (z : suc m ≡ suc n). eqb-false m n e (omega (arith, z))))
 
-pub asked_no : (r : Answer) (n : ℕ) → true ≡ not (option_eq eqb r (Some n)) → one_more r ≡ suc n → ⊥
-asked_no r n e z = true≢false (e ∙ ap not (one_more_eq r n ∙ eq-eqb _ _ z))
+pub asked_no : (r : Answer) (n : ℕ) → false ≡ option_eq eqb r (Some n) → one_more r ≡ suc n → ⊥
+asked_no r n e = eqb-false (one_more r) (suc n) (sym (e ∙ one_more_eq r n))
 
-pub asked_yes : (r : Answer) (n : ℕ) → false ≡ not (option_eq eqb r (Some n)) → one_more r ≡ suc n
-asked_yes r n e = go (eqb (one_more r) (suc n)) refl
-  where
-    go : (x : Bool) → eqb (one_more r) (suc n) ≡ x → one_more r ≡ suc n
-    go true h = eqb-true (one_more r) (suc n) h
-    go false h = absurd (true≢false (sym (e ∙ ap not (one_more_eq r n ∙ h))))
+pub asked_yes : (r : Answer) (n : ℕ) → true ≡ option_eq eqb r (Some n) → one_more r ≡ suc n
+asked_yes r n e = eqb-true (one_more r) (suc n) (sym (e ∙ one_more_eq r n))

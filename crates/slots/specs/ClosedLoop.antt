@@ -1,7 +1,8 @@
 -- The loop of the pass for closed expressions: what holds at its head, and a law for each way round it and out of it.
-use Rattle.std.specs.Prelude.{◌≡◌, Bool, get_or, drop, Option, Some, None, is_none}
+use Rattle.std.specs.Prelude.{◌≡◌, Bool, get_or, drop, Option, Some, None, is_none, leb}
+use Rattle.std.specs.Bool.{then_some}
 use Rattle.std.proofs.Math.Path.{refl, sym, ap}
-use Rattle.std.proofs.Common.{◌∙◌, subst, drop_of_length-le, drop-cons, drop-drop, get_or-drop, lt-ltb, le-ltb}
+use Rattle.std.proofs.Common.{◌∙◌, add-one, leb-true, leb-false, subst, drop_of_length-le, drop-cons, drop-drop, get_or-drop, lt-ltb, le-ltb}
 use Rattle.std.proofs.Math.Bool.{true, false}
 use mathlib.Core.List.{List, [], ◌∷◌}
 use Prim.Native.Nat.{ℕ, zero, suc, ◌+◌, ◌<◌, ◌≤◌}
@@ -13,6 +14,7 @@ use Rattle.slots.specs.Due.{Due, due, done, after, stack_of, due_of, push_of, St
 use Rattle.slots.specs.Closed.{field_ok, ok, is_closed, twelves, closed_count, ok_fits, closed_in, Closed}
 use Rattle.slots.specs.Lent.{swept, swept_none}
 use Rattle.slots.specs.Part.{under, height, at_some, at_none}
+use Rattle.slots.specs.Answer.{one_more}
 use Rattle.slots.specs.declared.stack.Part.{Part}
 
 -- ---- from code to code
@@ -125,6 +127,14 @@ module _ {nl nc : ℕ} {s stack : List ℕ} {dn : Bool} {d sp n i : ℕ} (l : Pa
       let z : n + 1 ≡ suc (twelves s 0) = omega (arith, l.counts, t) in
       z ∙ ap (λ (b : Bool). choose b (λ _. suc (twelves s 0)) (λ _. 0)) (sym e ∙ at_end h)
 
+  -- the end of what the code has read, told
+  pub passing_told : dn ≡ true → {r : Option ℕ} → r ≡ then_some (leb (length s) i) n → one_more r ≡ closed_count nl nc s
+  passing_told e er = rw er (go (leb (length s) i) refl)
+    where
+      go : (t : Bool) → leb (length s) i ≡ t → one_more (then_some t n) ≡ closed_count nl nc s
+      go true h = sym (add-one n) ∙ passing_end (leb-true (length s) i h) e
+      go false h = passing_over (leb-false (length s) i h) e
+
   pub passing_short : length s ≤ i → dn ≡ false → 0 ≡ closed_count nl nc s
   passing_short h e = refused nl nc s (sym e ∙ at_end h)
 
@@ -138,26 +148,26 @@ module _ {nl nc : ℕ} {s stack : List ℕ} {dn : Bool} {d sp n i : ℕ} (l : Pa
         ap (λ (y : List ℕ). ok nl nc y 0 (due d (stack_of stack sp))) (sym (drop-cons s i 0 h))
         ∙ ap (λ (b : Bool). ok nl nc (drop i s) 0 (due_of b d (stack_of stack sp))) (sym nd) ∙ l.same
 
-    pub passing_uncoded : is_code (get_or s i 0) ≡ false → 0 ≡ closed_count nl nc s
+    pub passing_uncoded : false ≡ is_code (get_or s i 0) → 0 ≡ closed_count nl nc s
     unfolding x
-    passing_uncoded e = refused nl nc s (sym (ok_uncoded nl nc x (drop (suc i) s) d (stack_of stack sp) e) ∙ here)
+    passing_uncoded e = refused nl nc s (sym (ok_uncoded nl nc x (drop (suc i) s) d (stack_of stack sp) (sym e)) ∙ here)
 
-    module _ (e : is_code (get_or s i 0) ≡ true) (b : ℕ) (eb : b ≡ get_or s (i + 1) 0) where
+    module _ (e : true ≡ is_code (get_or s i 0)) {b : ℕ} (eb : b ≡ get_or s (i + 1) 0) where
       head : get_or (drop (suc i) s) 0 0 ≡ b
       head = get_or-drop (suc i) s 0 0 ∙ ap (λ (k : ℕ). get_or s k 0) (omega arith) ∙ sym eb
 
-      pub passing_unbound : field_ok nl nc (get_or s i 0) b d ≡ false → 0 ≡ closed_count nl nc s
+      pub passing_unbound : false ≡ field_ok nl nc (get_or s i 0) b d → 0 ≡ closed_count nl nc s
       unfolding x
       passing_unbound f =
-          refused nl nc s (sym (ok_unbound nl nc x (drop (suc i) s) d (stack_of stack sp) e (ap (λ (k : ℕ). field_ok nl nc x k d) head ∙ f))
-          ∙ here)
+          refused nl nc s
+          (sym (ok_unbound nl nc x (drop (suc i) s) d (stack_of stack sp) (sym e) (ap (λ (k : ℕ). field_ok nl nc x k d) head ∙ sym f)) ∙ here)
 
-      module _ (f : field_ok nl nc (get_or s i 0) b d ≡ true) (w : ℕ) (ew : w ≡ field_of (get_or s i 0)) where
+      module _ (f : true ≡ field_ok nl nc (get_or s i 0) b d) (w : ℕ) (ew : w ≡ field_of (get_or s i 0)) where
         on : ok nl nc (drop (suc i) s) w (after (get_or s i 0) d (stack_of stack sp)) ≡ is_closed nl nc s
         unfolding x
         on =
             ap (λ (k : ℕ). ok nl nc (drop (suc i) s) k (after x d (stack_of stack sp))) ew
-            ∙ sym (ok_code nl nc x (drop (suc i) s) d (stack_of stack sp) e (ap (λ (k : ℕ). field_ok nl nc x k d) head ∙ f)) ∙ here
+            ∙ sym (ok_code nl nc x (drop (suc i) s) d (stack_of stack sp) (sym e) (ap (λ (k : ℕ). field_ok nl nc x k d) head ∙ sym f)) ∙ here
 
         pub passing_cut : length s ≤ i + w → 0 ≡ closed_count nl nc s
         passing_cut m = refused nl nc s (sym (hold_cut nl nc w (drop (suc i) s) _ (omega (arith, length-drop (suc i) s))) ∙ on)

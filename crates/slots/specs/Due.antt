@@ -2,7 +2,7 @@
 -- around it is a stack of kinds: 0 a further part under the same binders, 1 a further part under one binder more (let), 2 the end of a
 -- binder's scope. Every entry is paid for by a byte, so the stack has no more entries than the slot has bytes (`room`).
 use Rattle.std.specs.Prelude.{◌≡◌, refl, Bool, true, false, cond, List, [], ◌∷◌, ℕ, zero, suc, ◌+◌, ◌-◌, ◌<◌, ◌≤◌, eqb, length, get_or, set}
-use Rattle.std.proofs.Common.{ap, ◌∙◌, add-zero, add-one, arith, get_or-set_same, get_or-set_other}
+use Rattle.std.proofs.Common.{sym, ap, ◌∙◌, add-zero, add-one, arith, get_or-set_same, get_or-set_other}
 use borrow.Author.Tests.{ne_eqb, eqb-true, eqb-false}
 use Rattle.paper.specs.Base.{choose}
 use Rattle.slots.specs.Codes.{kids_of, bind1, bind2, kids≤, bind1≤, bind2≤}
@@ -153,6 +153,35 @@ module _ (c : ℕ) where
       go : (b : Bool) → eqb (kids_of c) 1 ≡ b → push_of c ≤ kids_of c
       go true e = let k = eqb-true (kids_of c) 1 e in omega (arith, push_one k, bind1≤ c)
       go false e = omega (arith, push_more (eqb-false (kids_of c) 1 e))
+
+-- what the code says of what it reads and writes, way by way
+module _ (c d sp : ℕ) (a : List ℕ) where
+  came : {u : Due} {high deep : ℕ} {dn : Bool} {e tp : ℕ} {r : List ℕ} → u ≡ after c d (stack_of a sp) → high ≤ sp + push_of c → deep ≤ d + 1
+      → Stacked u high deep dn e tp r
+      → Stacked (after c d (stack_of a sp)) (sp + push_of c) (d + 1) dn e tp r
+  came e h m s = record { is = s.is ∙ e; most = omega (arith, s.most); under = omega (arith, s.under) }
+
+  module _ {dn : Bool} {e tp : ℕ} {r : List ℕ} where
+    pub came_leaf : kids_of c ≡ 0 → Stacked (ended d (stack_of a sp)) sp (d + 1) dn e tp r
+        → Stacked (after c d (stack_of a sp)) (sp + push_of c) (d + 1) dn e tp r
+    came_leaf k s = came (sym (after_leaf c d (stack_of a sp) k)) (omega arith) (omega arith) s
+
+    pub came_bind : kids_of c ≡ 1 → 1 ≡ bind1 c → Stacked (due (d + 1) (2 ∷ stack_of a sp)) (sp + 1) (d + 1) dn e tp r
+        → Stacked (after c d (stack_of a sp)) (sp + push_of c) (d + 1) dn e tp r
+    came_bind k b s = came (sym (after_bind c d (stack_of a sp) k (sym b))) (omega (arith, push_one c k, b)) (omega arith) s
+
+    pub came_two : (b : ℕ) → kids_of c ≡ 2 → b ≡ bind2 c → Stacked (due d (b ∷ stack_of a sp)) (sp + 1) d dn e tp r
+        → Stacked (after c d (stack_of a sp)) (sp + push_of c) (d + 1) dn e tp r
+    came_two b k f s = came (sym (after_two c d (stack_of a sp) b k (sym f))) (omega (arith, push_two c k)) (omega arith) s
+
+    pub came_three : kids_of c ≡ 3 → sp < length a → Stacked (due d (0 ∷ stack_of (set a sp 0) (sp + 1))) (sp + 1 + 1) d dn e tp r
+        → Stacked (after c d (stack_of a sp)) (sp + push_of c) (d + 1) dn e tp r
+    came_three k h s =
+        came (ap (λ (l : List ℕ). due d (0 ∷ l)) (stack_push a sp 0 h) ∙ sym (after_three c d (stack_of a sp) k)) (omega (arith, push_three c k))
+        (omega arith) s
+
+  pub came_plain : kids_of c ≡ 1 → 0 ≡ bind1 c → Stacked (after c d (stack_of a sp)) (sp + push_of c) (d + 1) false d sp a
+  came_plain k b = record { is = sym (after_plain c d (stack_of a sp) k (sym b)); most = omega arith; under = omega arith }
 
 -- the end of a scope is the end of what it was in
 pub scope_ends : (d : ℕ) (st : List ℕ) → ended (d + 1) (2 ∷ st) ≡ ended d st

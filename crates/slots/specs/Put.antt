@@ -1,7 +1,7 @@
 -- A value put for the outermost variable of the expression that stands first in some bytes: on the bytes it is one pass that keeps the
 -- number of binders (`Due`), and it is `put` of the term (`PutTerm`). What follows the expression is left out. Of bytes that are no expression
 -- it makes something too, which nobody asks for: so that whoever knows that they are one does not pass over them once more.
-use Rattle.std.specs.Prelude.{◌≡◌, Bool, cond, ◌&&◌, List, [], ◌∷◌, ◌++◌, ℕ, zero, suc, ◌+◌, ◌-◌, ◌*◌, eqb, ltb, length, get_or, take, drop}
+use Rattle.std.specs.Prelude.{Option, ◌≡◌, Bool, cond, ◌&&◌, List, [], ◌∷◌, ◌++◌, ℕ, zero, suc, ◌+◌, ◌-◌, ◌*◌, eqb, ltb, length, get_or, take, drop}
 use Rattle.std.proofs.Common.{sym, ◌∙◌}
 use Rattle.paper.specs.Base.{choose}
 use Rattle.slots.specs.Codes.{field_of}
@@ -36,10 +36,10 @@ piece s a b = take (b - a) (drop a s)
 unfoldable pub put_in : ℕ → List ℕ → List ℕ → List ℕ
 put_in room src v = choose (ltb room (2 * length src)) (λ _. []) (λ _. put_of src v)
 
-pub record Put (src v d : List ℕ) (at : ℕ) (d' st st' : List ℕ) (r : ℕ) : Type 0 where
+pub record Put (src v d : List ℕ) (at : ℕ) (d' st st' : List ℕ) (r : Option ℕ) : Type 0 where
   pub written : Written (take at d ++ put_in (length st) src v) d d' r
   pub stack : st' ≡ swept (2 * length src) st
 
-pub put_one : {src v d d' d'' st st' st'' : List ℕ} {at r r' : ℕ} → Put src v d at d' st st' r → Put src v d at d'' st st'' r'
+pub put_one : {src v d d' d'' st st' st'' : List ℕ} {at : ℕ} {r r' : Option ℕ} → Put src v d at d' st st' r → Put src v d at d'' st st'' r'
     → (r ≡ r') × (d' ≡ d'') × (st' ≡ st'')
 put_one a b = let w = written_one a.written b.written in (w.0, w.1, a.stack ∙ sym b.stack)

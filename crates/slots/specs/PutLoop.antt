@@ -67,7 +67,7 @@ module _ (src v before : List ℕ) (at : ℕ) (h : at ≤ length before) where
   }
 
 module _ {all src v before dst stack : List ℕ} {dn : Bool} {d sp out from i : ℕ} (l : Putting all src v before dst stack dn d sp out from i) where
-  ends : put_bytes (drop i src) v 0 (due_of dn d (stack_of stack sp)) ≡ [] → {x dst' : List ℕ} {r : ℕ} → x ≡ piece src from i
+  ends : put_bytes (drop i src) v 0 (due_of dn d (stack_of stack sp)) ≡ [] → {x dst' : List ℕ} {r : Option ℕ} → x ≡ piece src from i
       → Written (take out dst ++ x) dst dst' r → Written all before dst' r
   ends e {x} {dst'} {r} f w =
       subst (λ (z : List ℕ). Written z before dst' r)
@@ -75,7 +75,7 @@ module _ {all src v before dst stack : List ℕ} {dn : Bool} {d sp out from i : 
       (f ∙ sym (append-nil (piece src from i)) ∙ ap (λ (y : List ℕ). piece src from i ++ y) (sym e)) ∙ l.same)
       (written_behind l.stands x w)
 
-  module _ {dst' : List ℕ} {r : ℕ} where
+  module _ {dst' : List ℕ} {r : Option ℕ} where
     pub putting_end : length src ≤ i → Written (take out dst ++ piece src from (length src)) dst dst' r → Written all before dst' r
     putting_end h =
         ends
@@ -118,24 +118,23 @@ module _ {all src v before dst stack : List ℕ} {dn : Bool} {d sp out from i : 
           append_assoc l.sofar (piece src from i ++ v) _
           ∙ ap (λ (z : List ℕ). l.sofar ++ z) (append_assoc (piece src from i) v _ ∙ ap (λ (z : List ℕ). piece src from i ++ z) (sym comes)) ∙ l.same
 
-      module _ {dst' : List ℕ} {r : ℕ} (w : Written (take out dst ++ (piece src from i ++ v)) dst dst' r) where
+      module _ {dst' : List ℕ} {r : Option ℕ} (w : Written (take out dst ++ (piece src from i ++ v)) dst dst' r) where
         now_there : Written (l.sofar ++ x) before dst' r
         unfolding x
         now_there = written_behind l.stands (piece src from i ++ v) w
 
-        pub putting_short : length dst < r → Written all before dst' r
-        putting_short m =
-            subst (λ (z : List ℕ). Written z before dst' r) whole (written_short now_there (omega (arith, putting_length)) _)
+        pub putting_short : r ≡ None → {q : Option ℕ} → q ≡ None → Written all before dst' q
+        putting_short m {q} n = subst (λ (z : List ℕ). Written z before dst' q) whole (written_short now_there m _ n)
 
-        pub putting_value : r ≤ length dst → {dn' : Bool} {d' sp' : ℕ} {stack' : List ℕ} → length stack' ≡ length stack
+        pub putting_value : {o : ℕ} → r ≡ Some o → {dn' : Bool} {d' sp' : ℕ} {stack' : List ℕ} → length stack' ≡ length stack
             → Stacked (ended d (stack_of stack sp)) sp (d + 1) dn' d' sp' stack'
-            → Putting all src v before dst' stack' dn' d' sp' r (i + 2) (i + 2)
+            → Putting all src v before dst' stack' dn' d' sp' o (i + 2) (i + 2)
         unfolding st
-        putting_value m {dn'} {d'} {sp'} {stack'} ls z = record {
+        putting_value {o} m {dn'} {d'} {sp'} {stack'} ls z = record {
           sofar = l.sofar ++ x;
           same = ap (λ (u : List ℕ). (l.sofar ++ x) ++ (u ++ put_bytes (drop (i + 2) src) v 0 (due_of dn' d' (stack_of stack' sp')))) (no_piece src (i + 2))
               ∙ ap (λ (u : Due). (l.sofar ++ x) ++ put_bytes (drop (i + 2) src) v 0 u) z.is ∙ whole;
-          stands = fits_stands (written_fits now_there (omega (arith, putting_length)));
+          stands = fits_stands (written_fits now_there m);
           long = ls ∙ l.long;
           top = omega (arith, z.most, l.top);
           deep = omega (arith, z.under, l.deep);
@@ -176,14 +175,14 @@ module _ {all src v before dst stack : List ℕ} {dn : Bool} {d sp out from i : 
 -- ---- the pass, on a lent stack
 
 module _ (src v d st : List ℕ) (at a : ℕ) (ea : a ≡ min at (length d)) where
-  pub put_short : length st / 2 < length src → Put src v d at d st st a
+  pub put_short : length st / 2 < length src → Put src v d at d st st (Some a)
   unfolding put_in
   put_short h = record {
     written = rw (lt-ltb (length st) (2 * length src) (omega arith)) (none_written d at a ea);
     stack = swept_none (2 * length src) st (omega arith);
   }
 
-  pub put_by : 2 * length src ≤ length st → {d' : List ℕ} {r : ℕ} → Written (take a d ++ put_of src v) d d' r → {st' : List ℕ}
+  pub put_by : 2 * length src ≤ length st → {d' : List ℕ} {r : Option ℕ} → Written (take a d ++ put_of src v) d d' r → {st' : List ℕ}
       → st' ≡ swept (2 * length src) st → Put src v d at d' st st' r
   unfolding put_in
   put_by h w e = record {

@@ -3,11 +3,10 @@
 -- not"), as tests of its bytes. As many open sections on the way of evaluation as there are in all means that none stands elsewhere. What
 -- the tests mean on terms is in `SlotTerm`.
 use Rattle.std.specs.Prelude.{◌≡◌, Bool, List, ℕ, length, get_or}
-use Rattle.std.proofs.Math.Path.{sym, ap, subst}
-use Rattle.std.proofs.Common.{◌∙◌, arith}
+use Rattle.std.proofs.Math.Path.{sym, ap}
+use Rattle.std.proofs.Common.{◌∙◌}
 use Rattle.std.proofs.Math.Bool.{false}
 use Rattle.std.proofs.Math.Dec.{eqb}
-use Rattle.std.proofs.Math.ListN.{get_or-eq_default}
 use borrow.Author.Tests.{ne_eqb}
 use Rattle.paper.specs.Base.{choose}
 use Rattle.slots.specs.Codes.{is_value}
@@ -65,18 +64,16 @@ module _ {nl nc : ℕ} {s st st' : List ℕ} {n : ℕ} (c : Closed nl nc s st st
       ap (λ (x : ℕ). eqb x n) d.says ∙ ap (λ (x : ℕ). eqb (tally m (opens_of s)) x) c.says in
       record { says = rw f e; marks = rw f d.marks; stack = c.stack }
 
-  pub cell_none : (n ≡ 1 → ⊥) → CellSlot nl nc s st st' false
+  pub cell_none : (n ≡ 1 → ⊥) → {r : Bool} → r ≡ false → CellSlot nl nc s st st' r
   unfolding cell_test
-  cell_none n =
+  cell_none n e =
       let f : eqb (closed_in (length st) nl nc s) 1 ≡ false = ne_eqb (closed_in (length st) nl nc s) 1
       (λ (z : closed_in (length st) nl nc s ≡ 1). n (c.says ∙ z)) in
-      record { says = rw f; stack = c.stack }
+      record { says = rw f e; stack = c.stack }
 
-  module _ (z : n ≡ 1) where
-    pub cell_by : CellSlot nl nc s st st' (is_value (get_or s 0 0))
-    unfolding cell_test
-    cell_by = let e : closed_in (length st) nl nc s ≡ 1 = sym c.says ∙ z in record { says = rw e; stack = c.stack }
-
-    pub cell_empty : length s ≡ 0 → CellSlot nl nc s st st' false
-    unfolding is_value
-    cell_empty e = subst (CellSlot nl nc s st st') (ap is_value (get_or-eq_default s 0 (omega (arith, e)))) cell_by
+  pub cell_by : n ≡ 1 → {b : ℕ} → b ≡ get_or s 0 0 → {r : Bool} → r ≡ is_value b → CellSlot nl nc s st st' r
+  unfolding cell_test
+  cell_by z {b} eb er =
+      let e : closed_in (length st) nl nc s ≡ 1 = sym c.says ∙ z in
+      let v = er ∙ ap is_value eb in
+      record { says = rw e v; stack = c.stack }

@@ -1,13 +1,14 @@
 -- The code along the way of evaluation: `onward` test by test, the loop of `place`, and what is read at its end.
-use Rattle.std.specs.Prelude.{◌≡◌, refl, true, false, List, length, Some, None}
+use Rattle.std.specs.Prelude.{◌≡◌, ◌⊎◌, refl, Bool, true, false, eqb, ltb, List, length, Some, None}
+use Rattle.std.specs.Bool.{then_some}
 use Rattle.std.proofs.Math.Path.{sym}
-use Rattle.std.proofs.Common.{ap, ◌∙◌}
+use Rattle.std.proofs.Common.{ap, ◌∙◌, add-one, inl, inr}
 use Prim.Native.Nat.{ℕ, zero, suc, ◌+◌, ◌<◌, ◌≤◌}
 use native.Mathlib.Omega.{arith}
 use Rattle.std.proofs.Math.ListN.{get_or, get_or-eq_default}
-use borrow.Author.Tests.{lt-ltb, le-ltb, ne_eqb}
+use borrow.Author.Tests.{lt-ltb, le-ltb, ne_eqb, eqb-true, eqb-false}
 use Rattle.slots.specs.Codes.{Told, field_of, goes1, goes2, is_value}
-use Rattle.slots.specs.Walk.{skip_of}
+use Rattle.slots.specs.Walk.{skip_of, Skipped, skipped_some, skipped_none}
 use Rattle.slots.specs.Answer.{Answer, nonzero, nonzero_at, one_more}
 use Rattle.slots.specs.Way.{second, inward, onward, both, second_at, place_from, place_of, cell_from, aim_at, aim_number, aim_of, Place, Aim}
 use Rattle.slots.specs.Way.{place_here, place_on}
@@ -21,65 +22,78 @@ pub record Onward (s : List ℕ) (p r : ℕ) (e : Answer) : Type 0 where
   pub inside : r ≤ length s
   pub second : e ≡ nonzero (second_at s p)
 
+first_at : (s : List ℕ) (p : ℕ) {w : ℕ} → w ≡ field_of (get_or s p 0) + 1 → p + field_of (get_or s p 0) + 1 ≡ p + w
+first_at s p e = omega (arith, e)
+
 module _ {s : List ℕ} {p : ℕ} (i : p < length s) where
   here : onward s p ≡ p → second_at s p ≡ 0 → Onward s p p None
   here z w = record { says = sym z; later = omega arith; inside = omega arith; second = ap nonzero (sym w) }
 
-  pub on_stop : goes1 (get_or s p 0) ≡ false → Onward s p p None
+  pub on_stop : false ≡ goes1 (get_or s p 0) → Onward s p p None
   unfolding onward inward second_at both
-  on_stop g = here (rw g) (rw g)
+  on_stop g = here (rw (sym g)) (rw (sym g))
 
-  -- with the first part from f on
-  module _ (f : ℕ) (ef : f ≡ p + field_of (get_or s p 0) + 1) (g : goes1 (get_or s p 0) ≡ true) where
-    pub on_cut : length s ≤ f → Onward s p p None
+  -- with the first part from p + w on
+  module _ {w : ℕ} (ew : w ≡ field_of (get_or s p 0) + 1) (g : true ≡ goes1 (get_or s p 0)) where
+    pub on_cut : length s ≤ p + w → Onward s p p None
     unfolding onward inward second_at both
-    on_cut h = here (rw (sym ef, g, le-ltb _ _ h)) (rw (sym ef, g, le-ltb _ _ h))
+    on_cut h = here (rw (first_at s p ew, sym g, le-ltb _ _ h)) (rw (first_at s p ew, sym g, le-ltb _ _ h))
 
-    module _ (h : f < length s) where
-      pub on_first : is_value (get_or s f 0) ≡ false → Onward s p f None
+    module _ (h : p + w < length s) where
+      pub on_first : false ≡ is_value (get_or s (p + w) 0) → Onward s p (p + w) None
       unfolding onward inward second_at both
       on_first n = record {
-        says = rw (sym ef, g, lt-ltb _ _ h, n);
+        says = rw (first_at s p ew, sym g, lt-ltb _ _ h, sym n);
         later = omega arith;
         inside = omega arith;
-        second = let z : 0 ≡ second_at s p = rw (sym ef, g, lt-ltb _ _ h, n) in ap nonzero z;
+        second = let z : 0 ≡ second_at s p = rw (first_at s p ew, sym g, lt-ltb _ _ h, sym n) in ap nonzero z;
       }
 
-      module _ (v : is_value (get_or s f 0) ≡ true) where
-        pub on_one : goes2 (get_or s p 0) ≡ false → Onward s p p None
+      module _ (v : true ≡ is_value (get_or s (p + w) 0)) where
+        pub on_one : false ≡ goes2 (get_or s p 0) → Onward s p p None
         unfolding onward inward second second_at both
-        on_one n = here (rw (sym ef, g, lt-ltb _ _ h, v, n)) (rw (sym ef, g, lt-ltb _ _ h, v, n))
+        on_one n = here (rw (first_at s p ew, sym g, lt-ltb _ _ h, sym v, sym n)) (rw (first_at s p ew, sym g, lt-ltb _ _ h, sym v, sym n))
 
-        -- with the first part's end at e
-        module _ (g2 : goes2 (get_or s p 0) ≡ true) (e : ℕ) (ee : e ≡ skip_of s f) where
-          pub on_none : e ≤ f → Onward s p p None
+        module _ (g2 : true ≡ goes2 (get_or s p 0)) where
+          pub on_none : Skipped s (p + w) None → Onward s p p None
           unfolding onward inward second second_at both
-          on_none l = here (rw (sym ef, g, lt-ltb _ _ h, v, g2, sym ee, le-ltb _ _ l)) (rw (sym ef, g, lt-ltb _ _ h, v, g2, sym ee, le-ltb _ _ l))
+          on_none k =
+              let n = skipped_none k in
+              let z : ltb (p + w) 0 ≡ false = le-ltb _ _ (omega arith) in
+              here (rw (first_at s p ew, sym g, lt-ltb _ _ h, sym v, sym g2, n, z)) (rw (first_at s p ew, sym g, lt-ltb _ _ h, sym v, sym g2, n, z))
 
-          module _ (l : f < e) where
+          -- with the first part's end at e
+          module _ {e : ℕ} (k : Skipped s (p + w) (Some e)) where
+            ee : skip_of s (p + w) ≡ e
+            ee = sym (skipped_some k).0
+
+            l : p + w < e
+            l = (skipped_some k).1
+
             pub on_end : length s ≤ e → Onward s p p None
             unfolding onward inward second second_at both
             on_end m =
-                here (rw (sym ef, g, lt-ltb _ _ h, v, g2, sym ee, lt-ltb _ _ l, le-ltb _ _ m))
-                (rw (sym ef, g, lt-ltb _ _ h, v, g2, sym ee, lt-ltb _ _ l, le-ltb _ _ m))
+                here (rw (first_at s p ew, sym g, lt-ltb _ _ h, sym v, sym g2, ee, lt-ltb _ _ l, le-ltb _ _ m))
+                (rw (first_at s p ew, sym g, lt-ltb _ _ h, sym v, sym g2, ee, lt-ltb _ _ l, le-ltb _ _ m))
 
             module _ (m : e < length s) where
-              pub on_both : is_value (get_or s e 0) ≡ true → Onward s p p (Some e)
+              pub on_both : true ≡ is_value (get_or s e 0) → Onward s p p (Some e)
               unfolding onward inward second second_at both
               on_both n = record {
-                says = rw (sym ef, g, lt-ltb _ _ h, v, g2, sym ee, lt-ltb _ _ l, lt-ltb _ _ m, n);
+                says = rw (first_at s p ew, sym g, lt-ltb _ _ h, sym v, sym g2, ee, lt-ltb _ _ l, lt-ltb _ _ m, sym n);
                 later = omega arith;
                 inside = omega arith;
-                second = nonzero_at (second_at s p) e (omega arith) (rw (sym ef, g, lt-ltb _ _ h, v, g2, sym ee, lt-ltb _ _ l, lt-ltb _ _ m, n));
+                second = nonzero_at (second_at s p) e (omega (arith, l))
+                    (rw (first_at s p ew, sym g, lt-ltb _ _ h, sym v, sym g2, ee, lt-ltb _ _ l, lt-ltb _ _ m, sym n));
               }
 
-              pub on_second : is_value (get_or s e 0) ≡ false → Onward s p e None
+              pub on_second : false ≡ is_value (get_or s e 0) → Onward s p e None
               unfolding onward inward second second_at both
               on_second n = record {
-                says = rw (sym ef, g, lt-ltb _ _ h, v, g2, sym ee, lt-ltb _ _ l, lt-ltb _ _ m, n);
-                later = omega arith;
+                says = rw (first_at s p ew, sym g, lt-ltb _ _ h, sym v, sym g2, ee, lt-ltb _ _ l, lt-ltb _ _ m, sym n);
+                later = omega (arith, l);
                 inside = omega arith;
-                second = let z : 0 ≡ second_at s p = rw (sym ef, g, lt-ltb _ _ h, v, g2, sym ee, lt-ltb _ _ l, lt-ltb _ _ m, n) in ap nonzero z;
+                second = let z : 0 ≡ second_at s p = rw (first_at s p ew, sym g, lt-ltb _ _ h, sym v, sym g2, ee, lt-ltb _ _ l, lt-ltb _ _ m, sym n) in ap nonzero z;
               }
 
 -- past the end nothing goes on
@@ -155,6 +169,21 @@ module _ (s : List ℕ) (p : ℕ) {b : ℕ} (eb : b ≡ get_or s p 0) where
   pub aim_none : (b ≡ 7 → ⊥) → (b ≡ 8 → ⊥) → 0 ≡ aim_number (aim_at s p)
   unfolding aim_at aim_number
   aim_none n m = rw (ne_eqb (get_or s p 0) 7 (λ (z : get_or s p 0 ≡ 7). n (eb ∙ z)), ne_eqb (get_or s p 0) 8 (λ (z : get_or s p 0 ≡ 8). m (eb ∙ z)))
+
+  -- as the code tells them
+  pub cell_told : {v : ℕ} {r : Answer} → v ≡ get_or s (p + 1) 0 → v < 256 → r ≡ then_some (eqb b 17) v → Told (aim_number (cell_from s p)) 256 (one_more r)
+  cell_told {v} {r} ev h er = rw er (go (eqb b 17) refl)
+    where
+      go : (t : Bool) → eqb b 17 ≡ t → Told (aim_number (cell_from s p)) 256 (one_more (then_some t v))
+      go true e = record { says = sym (add-one v) ∙ cell_here (eqb-true b 17 e) v ev; small = omega arith }
+      go false e = record { says = cell_none (eqb-false b 17 e); small = omega arith }
+
+  pub aim_goes : {r : ℕ} → (b ≡ 7) ⊎ (b ≡ 8) → Told (aim_number (cell_from s (p + 1))) 256 r → Told (aim_number (aim_at s p)) 256 r
+  aim_goes (inl e) t = record { says = t.says ∙ aim_read e; small = t.small }
+  aim_goes (inr e) t = record { says = t.says ∙ aim_write e; small = t.small }
+
+  pub aim_no : (b ≡ 7 → ⊥) → (b ≡ 8 → ⊥) → Told (aim_number (aim_at s p)) 256 0
+  aim_no n m = record { says = aim_none n m; small = omega arith }
 
 pub aimed : {s : List ℕ} {p : ℕ} {e r : Answer} → Place s p e → Told (aim_number (aim_at s p)) 256 (one_more r) → Aim s r
 unfolding aim_of

@@ -3,9 +3,10 @@ ghost use Rattle.std.specs.Prelude.{◌≡◌, length};
 ghost use Rattle.slots.specs.Answer.{one_more};
 ghost use Rattle.slots.specs.Closed.{field_ok, closed_count, Closed};
 
-use crate::codes::{CELL, LOCK, OPEN, VARIABLE, byte, is_code, opening, width};
+use crate::codes::{CELL, LOCK, OPEN, VARIABLE, is_code, is_open, width};
 use crate::sections::Counts;
 use crate::stack::{Part, after, pushes};
+use places::byte_at;
 use zeros::clear;
 
 // Whether b can stand after the code c: a variable is bound, a lock and a cell are below their counts.
@@ -34,27 +35,18 @@ fn pass(s: &[u8], counts: Counts, stack: &mut [u8]) -> Option<usize>
             return None;
         }
         let c = s[i];
-        if !is_code(c) {
-            return None;
-        }
-        if !field_ok(counts, c, usize::from(byte(s, i + 1)), part.d) {
+        if !is_code(c) || !field_ok(counts, c, usize::from(byte_at(s, i + 1)), part.d) {
             return None;
         }
         let w = width(c);
-        if s.len() - i < w {
+        if s.len() - i < w || stack.len() - part.sp < pushes(c) {
             return None;
         }
-        if stack.len() - part.sp < pushes(c) {
-            return None;
-        }
-        n += opening(c);
+        n += usize::from(is_open(c));
         next = after(stack, part, c);
         i += w;
     }
-    if i < s.len() {
-        return None;
-    }
-    Some(n)
+    (s.len() <= i).then_some(n)
 }
 
 // The same on a stack that may be longer, which is left with zeros where it was used; None where it is shorter than the slot.

@@ -1,25 +1,50 @@
 // What each code of the erased form has, by tables of 19 entries packed into one number each, code 00 lowest: a look-up is a shift. A byte that
-// is no code has the tables' default. The codes are bytes and no enum: each function here answers for all 256 bytes, and an enum would be made
-// of the byte by one more look-up, and its variants looked up in the tables by that byte again.
-ghost use Rattle.std.specs.Prelude.{◌≡◌, ◌+◌, ◌≤◌, get_or};
+// is no code has the tables' default. The codes are bytes and no enum: what `value`, `skip`, `place`, `aim` and `put` promise holds of all 256
+// bytes (`is_value`, `Skipped`, `Place`, `Aim`, `Put`): `put` reads on over a byte that is no code and `place` stops at one, by those defaults.
+ghost use Rattle.std.specs.Prelude.{◌≡◌, ◌+◌, ◌≤◌};
+ghost use Rattle.std.specs.Int.{from_bool};
 ghost use Rattle.slots.specs.Codes.{entry_of, is_code, kids_of, field_of, bind1, bind2, goes1, goes2, is_value, open_of, Told};
 
-// The codes that the passes ask for by name.
-pub(crate) const VARIABLE: u8 = 0x03;
+// The codes by name (document 01, "The running state"); OPEN is an open section.
+pub const UNIT: u8 = 0x01;
 
-pub(crate) const READ: u8 = 0x07;
+pub const NUMBER: u8 = 0x02;
 
-pub(crate) const WRITE: u8 = 0x08;
+pub const VARIABLE: u8 = 0x03;
 
-pub(crate) const LOCK: u8 = 0x10;
+pub const FUNCTION: u8 = 0x04;
 
-pub(crate) const CELL: u8 = 0x11;
+pub const APPLY: u8 = 0x05;
 
-pub(crate) const OPEN: u8 = 0x12;
+pub const NEW_CELL: u8 = 0x06;
 
-const FIRST: u8 = 0x01;
+pub const READ: u8 = 0x07;
 
-const LAST: u8 = 0x12;
+pub const WRITE: u8 = 0x08;
+
+pub const FORK: u8 = 0x09;
+
+pub const NEW_LOCK: u8 = 0x0A;
+
+pub const SECTION: u8 = 0x0B;
+
+pub const LET: u8 = 0x0C;
+
+pub const THEN: u8 = 0x0D;
+
+pub const ADD: u8 = 0x0E;
+
+pub const IF: u8 = 0x0F;
+
+pub const LOCK: u8 = 0x10;
+
+pub const CELL: u8 = 0x11;
+
+pub const OPEN: u8 = 0x12;
+
+const FIRST: u8 = UNIT;
+
+const LAST: u8 = OPEN;
 
 // The tables.
 const KIDS: usize = 0b01_00_00_11_10_10_10_10_01_01_10_01_01_10_01_00_00_00_00;
@@ -73,20 +98,20 @@ pub(crate) fn width(c: u8) -> usize
     entry(WIDTHS, 3, c)
 }
 
-// 1 where its first part stands under a binder of it, else 0.
+// Whether its first part stands under a binder of it.
 #[tactic(auto, using(crate::specs::Codes::told_bind1))]
-pub(crate) fn binds1(c: u8) -> usize
-    ensures { Told (bind1 c) 1 result }
+pub(crate) fn binds_first(c: u8) -> bool
+    ensures { from_bool result ≡ bind1 c }
 {
-    entry(BINDS_FIRST, 1, c)
+    entry(BINDS_FIRST, 1, c) == 1
 }
 
-// 1 where its second part stands under a binder of it, else 0.
+// Whether its second part stands under a binder of it.
 #[tactic(auto, using(crate::specs::Codes::told_bind2))]
-pub(crate) fn binds2(c: u8) -> usize
-    ensures { Told (bind2 c) 1 result }
+pub(crate) fn binds_second(c: u8) -> bool
+    ensures { from_bool result ≡ bind2 c }
 {
-    entry(BINDS_SECOND, 1, c)
+    entry(BINDS_SECOND, 1, c) == 1
 }
 
 // Whether evaluation goes into its first part.
@@ -113,17 +138,10 @@ pub fn value(c: u8) -> bool
     entry(VALUES, 1, c) == 1
 }
 
-// 1 for an open section, else 0.
+// Whether it is an open section.
 #[tactic(auto, unfolding(crate::specs::Codes::open_of))]
-pub(crate) fn opening(c: u8) -> usize
-    ensures { Told (open_of c) 1 result }
+pub(crate) fn is_open(c: u8) -> bool
+    ensures { from_bool result ≡ open_of c }
 {
-    usize::from(c == OPEN)
-}
-
-// The byte at i, 0 past the end.
-pub(crate) fn byte(s: &[u8], i: usize) -> u8
-    ensures { result ≡ get_or s.now i 0 }
-{
-    s.get(i).copied().unwrap_or(0)
+    c == OPEN
 }

@@ -19,7 +19,7 @@ fn is_hit(src: &[u8], i: usize, d: usize) -> bool
 
 // v for the outermost variable of the expression that stands first in src, to dst from `at` on, on a stack twice as long as src: no code puts
 // more than two entries on it. What v is not put into is copied in stretches, each from the last variable that it was put for up to the next.
-fn pass(src: &[u8], v: &[u8], dst: &mut [u8], at: usize, stack: &mut [u8]) -> usize
+fn pass(src: &[u8], v: &[u8], dst: &mut [u8], at: usize, stack: &mut [u8]) -> Option<usize>
     requires at_in_bounds { at ≤ length dst.old }
     requires stack_len { length stack.old ≡ 2 * length src.now }
     ensures { Written (take at dst.old ++ put_of src.now v.now) dst.old dst.new result }
@@ -33,10 +33,7 @@ fn pass(src: &[u8], v: &[u8], dst: &mut [u8], at: usize, stack: &mut [u8]) -> us
             return fill(&src[from..i], dst, out);
         };
         if is_hit(src, i, part.d) {
-            out = fill_both(&src[from..i], v, dst, out);
-            if dst.len() < out {
-                return out;
-            }
+            out = fill_both(&src[from..i], v, dst, out)?;
             next = ended(stack, part);
             i += 2;
             from = i;
@@ -50,15 +47,15 @@ fn pass(src: &[u8], v: &[u8], dst: &mut [u8], at: usize, stack: &mut [u8]) -> us
 }
 
 // The bytes of the expression that stands first in src with v for its outermost variable, to dst from `at` on as far as there is room: the
-// place after them, or one more than dst's length; none where the lent stack is shorter than twice src. The stack is left with zeros where it
-// was used. Whether an expression stands there is not asked: its bytes are passed once.
-pub fn put(src: &[u8], v: &[u8], dst: &mut [u8], at: usize, stack: &mut [u8]) -> usize
+// place after them, or None where not all of them fit; no bytes where the lent stack is shorter than twice src. The stack is left with zeros
+// where it was used. Whether an expression stands there is not asked: its bytes are passed once.
+pub fn put(src: &[u8], v: &[u8], dst: &mut [u8], at: usize, stack: &mut [u8]) -> Option<usize>
     ensures { Put src.now v.now dst.old at dst.new stack.old stack.new result }
 {
     let n = src.len();
     let from = least(at, dst.len());
     if stack.len() / 2 < n {
-        return from;
+        return Some(from);
     }
     let room = 2 * n;
     let r = pass(src, v, dst, from, &mut stack[..room]);

@@ -6,11 +6,12 @@ ghost use Rattle.slots.specs.Sections.{open_at, opens_of, Claimed};
 ghost use Rattle.slots.specs.Slot.{ThreadSlot, CellSlot};
 
 use crate::closed::closed;
-use crate::codes::{OPEN, byte, value};
+use crate::codes::{OPEN, value};
 use crate::way::onward;
+use places::byte_at;
 
 // How many locks and cells there are: a location is below its count.
-#[derive(Clone, Copy)]
+#[derive(Clone, Copy, Debug, PartialEq, Eq)]
 pub struct Counts {
     pub locks: usize,
     pub cells: usize,
@@ -21,11 +22,11 @@ fn claim(s: &[u8], p: usize, marks: &mut [u8]) -> Option<usize>
     requires { p ≤ length s.now }
     ensures { Claimed marks.old (open_at s.now p) marks.new (one_more result) }
 {
-    if byte(s, p) != OPEN {
+    if byte_at(s, p) != OPEN {
         return Some(0);
     }
-    let l = usize::from(byte(s, p + 1));
-    if byte(marks, l) != 1 {
+    let l = usize::from(byte_at(s, p + 1));
+    if byte_at(marks, l) != 1 {
         return None;
     }
     marks[l] = 0;
@@ -64,11 +65,5 @@ pub fn thread_slot(s: &[u8], counts: Counts, marks: &mut [u8], stack: &mut [u8])
 pub fn cell_slot(s: &[u8], counts: Counts, stack: &mut [u8]) -> bool
     ensures { CellSlot counts.locks counts.cells s.now stack.old stack.new result }
 {
-    if closed(s, counts, stack) != Some(0) {
-        return false;
-    }
-    if s.is_empty() {
-        return false;
-    }
-    value(s[0])
+    closed(s, counts, stack) == Some(0) && value(byte_at(s, 0))
 }

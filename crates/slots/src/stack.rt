@@ -5,9 +5,10 @@ ghost use Rattle.slots.specs.Codes.{Told};
 ghost use Rattle.slots.specs.Due.{due, ended as ended·of, after as after·of, push_of, stack_of, Room};
 ghost use Rattle.slots.specs.Part.{Comes};
 
-use crate::codes::{binds1, binds2, kids};
+use crate::codes::{binds_first, binds_second, kids};
 
-// The entries: a further part under the same binders, one under a binder more, and the end of a binder's scope.
+// The entries: a further part under the same binders, one under a binder more, and the end of a binder's scope. They are numbers and no enum: the
+// stack is a lent buffer of bytes (a rule of the project).
 const FURTHER: u8 = 0;
 
 const BOUND: u8 = 1;
@@ -15,7 +16,7 @@ const BOUND: u8 = 1;
 const SCOPE: u8 = 2;
 
 // An expression to be read: d binders are around it, and sp entries are open.
-#[derive(Clone, Copy)]
+#[derive(Clone, Copy, Debug, PartialEq, Eq)]
 pub(crate) struct Part {
     pub(crate) d: usize,
     pub(crate) sp: usize,
@@ -27,7 +28,7 @@ pub(crate) fn pushes(c: u8) -> usize
 {
     let k = kids(c);
     if k == 1 {
-        return binds1(c);
+        return usize::from(binds_first(c));
     }
     k.saturating_sub(1)
 }
@@ -74,7 +75,7 @@ pub(crate) fn after(stack: &mut [u8], part: Part, c: u8) -> Option<Part>
     match kids(c) {
         0 => ended(stack, part),
         1 => {
-            if binds1(c) == 0 {
+            if !binds_first(c) {
                 return Some(part);
             }
             let bound = Part {
@@ -84,7 +85,7 @@ pub(crate) fn after(stack: &mut [u8], part: Part, c: u8) -> Option<Part>
             push(stack, bound, SCOPE)
         }
         2 => {
-            if binds2(c) == 0 {
+            if !binds_second(c) {
                 return push(stack, part, FURTHER);
             }
             push(stack, part, BOUND)

@@ -1,5 +1,6 @@
 // Passing over an expression without memory: how many expressions are due is all there is to know. Here and in the passes of closed.rt and put.rt
-// the index goes on by the width of each code, so it is no count that a `for` could make.
+// the index goes on by the width of each code, and in sections.rt and way.rt (`while p < s.len()`) from a part to the part in it that evaluation
+// goes into, so it is no count that a `for` could make.
 ghost use Rattle.slots.specs.Walk.{Skipped};
 
 use crate::codes::{is_code, kids, width};

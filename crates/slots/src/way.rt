@@ -5,12 +5,13 @@ ghost use Rattle.slots.specs.Answer.{one_more};
 ghost use Rattle.slots.specs.Way.{cell_from, aim_at, aim_number, Place, Aim};
 ghost use Rattle.slots.specs.WayLoop.{Onward};
 
-use crate::codes::{CELL, READ, WRITE, byte, goes_first, goes_second, value, width};
+use crate::codes::{CELL, READ, WRITE, goes_first, goes_second, value, width};
 use crate::walk::skip;
+use places::byte_at;
 
 // How far evaluation goes: a place, and where the second part of the code there begins, if both its parts are values and evaluation goes into
 // both. To see that the second is a value the first was passed over, and nobody need do so again.
-#[derive(Clone, Copy)]
+#[derive(Clone, Copy, Debug, PartialEq, Eq)]
 pub struct Reached {
     pub at: usize,
     pub second: Option<usize>,
@@ -79,22 +80,19 @@ fn cell_from(s: &[u8], p: usize) -> Option<u8>
     requires { p ≤ length s.now + 1 }
     ensures { Told (aim_number (cell_from s.now p)) 256 (one_more result) }
 {
-    if byte(s, p) != CELL {
-        return None;
-    }
-    Some(byte(s, p + 1))
+    (byte_at(s, p) == CELL).then_some(byte_at(s, p + 1))
 }
 
 // The cell that the code at p reads or writes, if it does.
+#[tactic(auto, using(crate::specs::WayLoop::aim_goes, crate::specs::WayLoop::aim_no))]
 fn aim_at(s: &[u8], p: usize) -> Option<u8>
     requires { p ≤ length s.now }
     ensures { Told (aim_number (aim_at s.now p)) 256 (one_more result) }
 {
-    let c = byte(s, p);
-    if c == READ || c == WRITE {
-        return cell_from(s, p + 1);
+    match byte_at(s, p) {
+        READ | WRITE => cell_from(s, p + 1),
+        _ => None,
     }
-    None
 }
 
 // The cell that the expression that fills s is about to read or write, if it is.

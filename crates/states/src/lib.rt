@@ -18,8 +18,8 @@ use plans::card::SIXTEEN;
 // Why a call on a buffer is refused before anything else is looked at: the rows 1 and 18 of document 01's table.
 #[derive(Clone, Copy, Debug, PartialEq, Eq)]
 pub enum Unfit {
-    BufferShort,
-    NoState,
+    BufferShort = 1,
+    NoState = 18,
 }
 
 impl Unfit {
@@ -27,14 +27,12 @@ impl Unfit {
     pub fn number(self) -> u8
         ensures { result ≡ number self }
     {
-        match self {
-            Unfit::BufferShort => 1,
-            Unfit::NoState => 18,
-        }
+        self as u8
     }
 }
 
 // Whether the buffer's first 49,408 bytes are a state.
+#[tactic(auto, using(laws::specs::Cards::sixteen_fits), unfolding(paper::specs::States::sixteen))]
 pub fn is_state(state: &[u8]) -> bool
     ensures { SaysState state.now result }
 {
@@ -44,10 +42,11 @@ pub fn is_state(state: &[u8]) -> bool
 }
 
 // Whether the buffer is fit for a call: long enough, and a state.
+#[tactic(auto, using(laws::specs::Cards::sixteen_fits), unfolding(paper::specs::States::total))]
 pub fn check_state(state: &[u8]) -> Result<(), Unfit>
     ensures { Checked state.now result }
 {
-    if state.len() < 49408 {
+    if state.len() < SIXTEEN.size() {
         return Err(Unfit::BufferShort);
     }
     if !is_state(state) {
@@ -57,6 +56,7 @@ pub fn check_state(state: &[u8]) -> Result<(), Unfit>
 }
 
 // The first pair of threads that are about to read or write one cell.
+#[tactic(auto, using(laws::specs::Cards::sixteen_fits), unfolding(paper::specs::States::sixteen))]
 pub fn race(state: &[u8]) -> Result<Option<Pair>, Unfit>
     ensures { Raced state.now result }
 {

@@ -10,6 +10,13 @@ use places::{byte_at, is_clear, two_at};
 use plans::card::Card;
 use slots::sections::{Counts, cell_slot, thread_slot};
 
+// How many threads, cells and locks the header says there are.
+#[derive(Clone, Copy)]
+struct Used {
+    threads: usize,
+    counts: Counts,
+}
+
 // Whether the first six bytes are those of a plan of the card, with counts within it.
 #[tactic(auto, unfolding(paper::specs::States::total))]
 fn is_header(s: &[u8], card: Card) -> bool
@@ -25,10 +32,11 @@ fn is_header(s: &[u8], card: Card) -> bool
 }
 
 // Whether the unused bytes are zero: marks, lengths, the header's end, slots.
-fn is_unused(s: &[u8], card: Card, threads: usize, counts: Counts) -> bool
-    requires { WithinOf (card_of card) threads counts s.now }
-    ensures { Decides result (UnusedOf (card_of card) threads counts s.now) }
+fn is_unused(s: &[u8], card: Card, used: Used) -> bool
+    requires { WithinOf (card_of card) used.threads used.counts s.now }
+    ensures { Decides result (UnusedOf (card_of card) used.threads used.counts s.now) }
 {
+    let Used { threads, counts } = used;
     let from = card.cells_start();
     clear_between(s, 6 + counts.locks, 38)
         && clear_between(s, 38 + 2 * threads, 70)
@@ -46,17 +54,11 @@ fn copy_marks(s: &[u8], marks: &mut [u8])
 }
 
 // Whether a plan with this header holds so many threads, cells and locks: every section takes its lock's mark away, and none is left.
-fn is_plan(
-    s: &[u8],
-    card: Card,
-    threads: usize,
-    counts: Counts,
-    marks: &mut [u8],
-    stack: &mut [u8],
-) -> bool
-    requires { ReadyOf (card_of card) threads counts s.now marks.old }
-    ensures { Decides result (PlannedOf (card_of card) threads counts (length stack.old) s.now) }
+fn is_plan(s: &[u8], card: Card, used: Used, marks: &mut [u8], stack: &mut [u8]) -> bool
+    requires { ReadyOf (card_of card) used.threads used.counts s.now marks.old }
+    ensures { Decides result (PlannedOf (card_of card) used.threads used.counts (length stack.old) s.now) }
 {
+    let Used { threads, counts } = used;
     let threads_in = Rows {
         first: card.thread(0),
         count: threads,
@@ -80,7 +82,7 @@ fn is_plan(
             stack,
             |t, _, stack| cell_slot(t, counts, stack),
         )
-        && is_unused(s, card, threads, counts)
+        && is_unused(s, card, used)
 }
 
 // Whether the buffer holds a state of the card.
@@ -91,10 +93,12 @@ pub(crate) fn is_state_of(s: &[u8], card: Card, marks: &mut [u8], stack: &mut [u
     if s.len() < card.size() || !is_header(s, card) {
         return false;
     }
-    let threads = usize::from(byte_at(s, 3));
-    let counts = Counts {
-        locks: usize::from(byte_at(s, 5)),
-        cells: usize::from(byte_at(s, 4)),
+    let used = Used {
+        threads: usize::from(byte_at(s, 3)),
+        counts: Counts {
+            locks: usize::from(byte_at(s, 5)),
+            cells: usize::from(byte_at(s, 4)),
+        },
     };
-    is_plan(s, card, threads, counts, &mut marks[..counts.locks], stack)
+    is_plan(s, card, used, &mut marks[..used.counts.locks], stack)
 }

@@ -31,6 +31,7 @@ pub(crate) fn first_pair(s: &[u8], card: Card, n: u8) -> Option<Pair>
     requires { ThreadsIn card.thread_bytes s.now n }
     ensures { PairIs (aim_by card.thread_bytes s.now) n result }
 {
+    // Loops in a loop: document 01 has the order, "i < j, by i and then j", and `First` of specs/Pairs speaks of both numbers.
     let mut found = None;
     'pairs: for i in 0..n {
         let Some(cell) = aim_of(s, card.thread(i)) else {

@@ -8,7 +8,7 @@ use places::{is_clear, two_at};
 use plans::card::Slot;
 
 // So many slots from the first on, one behind the other, as their lengths are.
-#[derive(Clone, Copy)]
+#[derive(Clone, Copy, Debug, PartialEq, Eq)]
 pub(crate) struct Rows {
     pub(crate) first: Slot,
     pub(crate) count: usize,
@@ -49,6 +49,7 @@ pub(crate) fn all_pass<F: Fn(&[u8], &mut [u8], &mut [u8]) -> bool>(
     requires callable { F.IsAlwaysCallable test }
     ensures { AllTested (F.post test) rows.first.base rows.first.size rows.first.place rows.count (length stack.old) s.now marks.old marks.new result }
 {
+    // Not `(0..rows.count).all(..)` with the marks and the stack in the closure: tried, and its check did not end in 100 s on a loaded machine.
     for i in 0..rows.count {
         let Some(t) = text(s, rows, i) else {
             return false;

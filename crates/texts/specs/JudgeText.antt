@@ -1,6 +1,6 @@
 -- The judge's line for an image, as a call: its answer and the lent buffers after it, from the image and the buffers before it. A buffer
 -- that the judge's work or the longest line does not fit in is refused whatever the image is, and both are left as they were.
-use Rattle.std.specs.Prelude.{◌≡◌, refl, ◌⊎◌, Bool, true, false, ◌||◌, List, ℕ, Result, Ok, Err, ◌<◌, ◌≤◌, ltb, length, take, drop}
+use Rattle.std.specs.Prelude.{◌≡◌, refl, ◌⊎◌, Bool, true, false, ◌||◌, List, ℕ, Option, Some, IsSome, Result, Ok, Err, ◌<◌, ◌≤◌, ltb, length, take, drop}
 use Rattle.std.proofs.Common.{sym, ap, ◌∙◌, subst, inl, inr, arith, length-append, take_at}
 use borrow.Author.Tests.{lt-ltb, le-ltb, ltb-true, ltb-false}
 use Rattle.paper.specs.Base.{choose}
@@ -8,7 +8,7 @@ use Rattle.paper.specs.Answers.{short_buffer}
 use Rattle.paper.specs.Verdict.{Out, ok, refused}
 use Rattle.paper.specs.Calls.{laid, work_bytes, zeroed}
 use Rattle.paper.specs.Texts.{judge_text}
-use Rattle.writing.specs.Written.{Written as Filled, written_room}
+use Rattle.writing.specs.Written.{Written, written_some, written_fits}
 use Rattle.texts.specs.declared.entry.ShortBuffer.{ShortBuffer}
 use Rattle.texts.specs.Lines.{line_length}
 
@@ -76,12 +76,15 @@ module _ (image work out : List ℕ) where
   text_short (inl h) = let c = short_work image work out h in record { says = cc; work = cc; out = cc }
   text_short (inr h) = let c = short_out image work out h.1 in record { says = cc; work = cc; out = cc }
 
-  pub text_written : {end : ℕ} {work' out' : List ℕ} → 40960 ≤ length work → 520 ≤ length out → work' ≡ zeroed work → Filled (judge_text image) out out' end
-      → JudgeTexts image work out (Ok end) work' out'
-  text_written h k z w =
+  -- the line has room
+  pub text_room : {r : Option ℕ} {out' : List ℕ} → 520 ≤ length out → Written (judge_text image) out out' r → IsSome r
+  text_room k w = let m = line_length image in written_some w (omega arith)
+
+  pub text_written : {r : Option ℕ} {end : ℕ} {work' out' : List ℕ} → 40960 ≤ length work → 520 ≤ length out → work' ≡ zeroed work
+      → Written (judge_text image) out out' r → r ≡ Some end → JudgeTexts image work out (Ok end) work' out'
+  text_written h k z w q =
       let c = long_both image work out h k in
-      let m = line_length image in
-      let f = written_room w (omega arith) in
+      let f = written_fits w q in
       let e = f.all in
       let b = f.bytes in
       record { says = cc; work = cc; out = cc }

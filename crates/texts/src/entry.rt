@@ -20,5 +20,5 @@ pub fn judge_text(image: &[u8], work: &mut [u8], out: &mut [u8]) -> Result<usize
         Ok(n) => accept_line(&types[..n], out),
         Err(refusal) => refuse_line(refusal, out),
     };
-    Ok(end)
+    Ok(end.unwrap()) // 520 bytes have room for either line
 }

@@ -86,3 +86,7 @@ module _ (image : List ℕ) where
   pub refusal_most : {n : ℕ} → Refusal n → n ≤ 17
   refusal_most (unread h e) = omega arith
   refusal_most (too_long h e) = omega arith
+
+  pub refusal_low : {n : ℕ} → Refusal n → n < 17 → n < 10
+  refusal_low (unread h e) l = omega arith
+  refusal_low (too_long h e) l = absurd (omega arith)

@@ -1,5 +1,5 @@
 -- What the trial prints of an image behind the judge's line: the steps of the run, why it was not loaded, or nothing.
-use Rattle.std.specs.Prelude.{◌≡◌, true, List, [], ◌∷◌, ◌++◌, ℕ, ◌+◌, ◌*◌, ◌<◌, ◌≤◌, length, take, Ok, Err}
+use Rattle.std.specs.Prelude.{◌≡◌, true, List, [], ◌∷◌, ◌++◌, ℕ, ◌+◌, ◌*◌, ◌<◌, ◌≤◌, length, take, Option, Some, IsSome, Ok, Err}
 use Rattle.std.proofs.Math.Path.{refl, ap, ap₂}
 use Rattle.std.proofs.Common.{sym, ◌∙◌, subst, append_assoc, arith, length-append, le-ltb}
 use Rattle.paper.specs.Verdict.{Out, ok, refused}
@@ -11,16 +11,18 @@ use Rattle.laws.specs.Cards.{sixteen_fits}
 use Rattle.laws.specs.LoadLaws.{no_ok, raw_done}
 use Rattle.laws.specs.RunLaws.{laid_buffer}
 use Rattle.answers.specs.declared.Refusal.{Refusal}
+use Rattle.answers.specs.declared.Refusal.TheVariants.{ShortBuffer, UntrueLength, OtherVersion, NoSuchCode, CutImage, LeftOver, OverLimit, UnboundVariable, UnboundName}
+use Rattle.answers.specs.declared.Refusal.TheVariants.{OwnTypeLong, OtherForm, NotSubtype, UndeclaredNeed, ForkNeeds, LockInType, LockInNeed, ErasedLong}
 use Rattle.answers.specs.Numbers.{number, place}
 use Rattle.loads.specs.Contract.{Answer, RawLoads}
-use Rattle.trial_texts.specs.Put.{Put, put_none, written_put}
+use Rattle.trial_texts.specs.Put.{Room, Put, put_none, put_some, written_put}
 use Rattle.writing.specs.Written.{Written}
 use Rattle.writing.specs.Digits.{decimal_length}
 use Rattle.trial_texts.specs.Lines.{load_line}
 use Rattle.trial_texts.specs.Bench.{Bench, Beyond, beyond_same, beyond_then, laid_beyond}
 use Rattle.trial_texts.specs.StepText.{Ready}
 use Rattle.trial_texts.specs.Along.{Prints}
-use Rattle.trial_texts.specs.Early.{behind, raw_refusal, refusal_most, behind_loaded, behind_unread, behind_long}
+use Rattle.trial_texts.specs.Early.{behind, raw_refusal, refusal_most, refusal_low, behind_loaded, behind_unread, behind_long}
 
 -- ---- the run
 
@@ -97,6 +99,25 @@ module _ {image s s' : List ℕ} (long : 49408 ≤ length s) (firsts : (S : Stat
         beyond = subst (Beyond s) (sym e) (laid_beyond s S g long);
       }
 
+other_number : (e : Refusal) → (e ≡ ErasedLong → ⊥) → number e < 17
+other_number ShortBuffer k = omega arith
+other_number UntrueLength k = omega arith
+other_number OtherVersion k = omega arith
+other_number (NoSuchCode p) k = omega arith
+other_number (CutImage p) k = omega arith
+other_number (LeftOver p) k = omega arith
+other_number (OverLimit p) k = omega arith
+other_number (UnboundVariable p) k = omega arith
+other_number (UnboundName p) k = omega arith
+other_number (OwnTypeLong p) k = omega arith
+other_number (OtherForm p) k = omega arith
+other_number (NotSubtype p) k = omega arith
+other_number (UndeclaredNeed p) k = omega arith
+other_number (ForkNeeds p) k = omega arith
+other_number (LockInType p) k = omega arith
+other_number (LockInNeed p) k = omega arith
+other_number ErasedLong k = absurd (k refl)
+
 module _ (image schedule : List ℕ) where
   load_ok : (S : State) → raw sixteen image ≡ ok S → load_text sixteen image schedule ≡ run_text sixteen schedule S
   unfolding load_text
@@ -141,17 +162,29 @@ module _ (image schedule : List ℕ) where
           beyond = subst (Beyond s) (sym r.1) (beyond_same s);
         }
 
-    pub load_refused : {s' out' : List ℕ} {e : Refusal} {n end : ℕ} → RawLoads image s (Err e) s' → n ≡ number e → 10 ≤ n → Written (take at out ++ load_line n) out out' end
-        → LoadPrints image schedule s out at s' out' end
-    load_refused {s'} {out'} {e} {n} {end} a same h v =
-        let r = not_loaded a in
-        let f = raw_refusal image r.0 in
-        let m = refusal_most image f in
-        let k = w.space in
-        let l : length (load_line n) ≤ 8 = omega (arith, decimal_length 1 n (omega arith), length-append (decimal n) (0x0A ∷ [])) in
-        let q : Put out out' at (load_line n) end = written_put (omega arith) v in
-        record {
-          text = subst (λ (x : List ℕ). Put out out' at x end) (sym (behind_long image schedule f (rw (← same) h) ∙ load_no n (place e) (r.0 ∙ ap (λ (k : ℕ). refused k (place e)) (sym same)))) q;
-          inside = let z = q.end in omega arith;
-          beyond = subst (Beyond s) (sym r.1) (beyond_same s);
-        }
+    pub load_other : {s' : List ℕ} {e : Refusal} → RawLoads image s (Err e) s' → (e ≡ ErasedLong → ⊥) → LoadPrints image schedule s out at s' out at
+    load_other {e = e} a k = load_unread a (refusal_low image (raw_refusal image (not_loaded a).0) (other_number e k))
+
+    module _ {s' out' : List ℕ} {e : Refusal} {n : ℕ} {o : Option ℕ} (a : RawLoads image s (Err e) s') (same : n ≡ number e)
+        (v : Written (take at out ++ load_line n) out out' o) where
+      load_room : Room out at (load_line n)
+      load_room =
+          let m = refusal_most image (raw_refusal image (not_loaded a).0) in
+          let k = w.space in
+          let l : length (load_line n) ≤ 8 = omega (arith, decimal_length 1 n (omega arith), length-append (decimal n) (0x0A ∷ [])) in
+          omega arith
+
+      pub load_some : IsSome o
+      load_some = put_some out at _ load_room v
+
+      pub load_refused : {end : ℕ} → o ≡ Some end → 10 ≤ n → LoadPrints image schedule s out at s' out' end
+      load_refused {end} t h =
+          let r = not_loaded a in
+          let f = raw_refusal image r.0 in
+          let q : Put out out' at (load_line n) end = written_put load_room v t in
+          let g = load_room in
+          record {
+            text = subst (λ (x : List ℕ). Put out out' at x end) (sym (behind_long image schedule f (rw (← same) h) ∙ load_no n (place e) (r.0 ∙ ap (λ (k : ℕ). refused k (place e)) (sym same)))) q;
+            inside = let z = q.end in omega arith;
+            beyond = subst (Beyond s) (sym r.1) (beyond_same s);
+          }

@@ -1,11 +1,11 @@
 -- Text that stands in a lent buffer at an offset, where there is room for it, with nothing else changed: what `Written` says then, in the form that
 -- lines of a run add up in (`put_then`), empty ones too.
-use Rattle.std.specs.Prelude.{◌≡◌, refl, List, [], ◌∷◌, ◌++◌, ℕ, suc, ◌+◌, ◌≤◌, length, set, take, drop}
+use Rattle.std.specs.Prelude.{Option, Some, IsSome, ◌≡◌, refl, List, [], ◌∷◌, ◌++◌, ℕ, suc, ◌+◌, ◌≤◌, length, set, take, drop}
 use Rattle.std.proofs.Common.{sym, ap, ◌∙◌, arith, length-append, length-take-le}
 use Rattle.std.proofs.lemmas.List.Edits.{sets, sets-eq}
 use Rattle.std.proofs.Math.Seq.{length-sets}
 use Rattle.paper.specs.Calls.{laid}
-use Rattle.writing.specs.Written.{Written, written_room}
+use Rattle.writing.specs.Written.{Written, written_some, written_fits}
 
 -- there is room for the text b at an offset
 abbrev pub Room : List ℕ → ℕ → List ℕ → Type 0
@@ -41,11 +41,18 @@ put_then {s} {s₁} {s₂} {at} {m} {end} {b} {c} p q =
 
 -- ---- the same as `Written`, where there is room
 
-pub written_put : {s s' : List ℕ} {at : ℕ} {b : List ℕ} {r : ℕ} → Room s at b → Written (take at s ++ b) s s' r → Put s s' at b r
+module _ (s : List ℕ) (at : ℕ) (b : List ℕ) (h : Room s at b) where
+  all : length (take at s ++ b) ≡ at + length b
+  all = length-append (take at s) b ∙ ap (λ (n : ℕ). n + length b) (length-take-le at s (omega arith))
+
+  pub put_some : {s' : List ℕ} {r : Option ℕ} → Written (take at s ++ b) s s' r → IsSome r
+  put_some w = written_some w (omega (arith, all))
+
+pub written_put : {s s' : List ℕ} {at : ℕ} {b : List ℕ} {r : Option ℕ} → Room s at b → Written (take at s ++ b) s s' r → {n : ℕ} → r ≡ Some n → Put s s' at b n
 unfolding laid
-written_put {s} {s'} {at} {b} {r} h w =
-    let l : length (take at s ++ b) ≡ at + length b = length-append (take at s) b ∙ ap (λ (n : ℕ). n + length b) (length-take-le at s (omega arith)) in
-    let f = written_room w (omega arith) in
+written_put {s} {s'} {at} {b} h w e =
+    let f = written_fits w e in
+    let l = all s at b h in
     record {
       text = f.bytes ∙ ap (λ (n : ℕ). (take at s ++ b) ++ drop n s) l ∙ sym (sets-eq b s at h);
       end = f.all ∙ l;

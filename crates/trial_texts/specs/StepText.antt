@@ -12,7 +12,7 @@ use Rattle.paper.specs.States.{State, sixteen}
 use Rattle.paper.specs.Runs.{race, Race, Made, tried}
 use Rattle.paper.specs.Texts.{three, race_word, step_text}
 use Rattle.writing.specs.Written.{Written}
-use Rattle.trial_texts.specs.Put.{Room, Put, put_length, put_then, written_put}
+use Rattle.trial_texts.specs.Put.{Room, Put, put_length, put_then, put_some, written_put}
 use Rattle.trial_texts.specs.Lines.{race_line, three_length}
 use Rattle.laws.specs.Cards.{sixteen_fits}
 use Rattle.laws.specs.Touched.{race_small}
@@ -56,11 +56,15 @@ module _ {s out : List ℕ} {at : ℕ} where
       let k = w.space in
       omega arith
 
-  pub races_between : {p : Pair} {out' : List ℕ} {end : ℕ} → Ready 14 s out at → Finds s (Ok (Some p))
-      → Written (take at out ++ race_line p.first p.second p.cell) out out' end → Races s out at out' (Break end)
-  races_between {out' = out'} {end} w f p = record {
-    tells = λ S b. subst (λ (o : Option Race). Raced out out' at o (Break end)) (sym (race_between b f)) (between (written_put (between_room w f) p));
-  }
+  module _ {p : Pair} {out' : List ℕ} {r : code.Option ℕ} (w : Ready 14 s out at) (f : Finds s (Ok (Some p)))
+      (x : Written (take at out ++ race_line p.first p.second p.cell) out out' r) where
+    pub between_some : code.IsSome r
+    between_some = put_some out at _ (between_room w f) x
+
+    pub races_between : {end : ℕ} → r ≡ Some end → Races s out at out' (Break end)
+    races_between {end} e = record {
+      tells = λ S b. subst (λ (o : Option Race). Raced out out' at o (Break end)) (sym (race_between b f)) (between (written_put (between_room w f) x e));
+    }
 
 -- no pair: a state has a race or none, whatever else the finder could say
 pub data NoPair : Found → Type 0 where
@@ -122,29 +126,36 @@ module _ {s out : List ℕ} {at i : ℕ} {s' : List ℕ} (w : Ready 23 s out at)
     line_room : Room out at (three i k n)
     line_room = let l = line_length in let h = w.space in omega arith
 
-    module _ {j : ℕ} (same : j ≡ k) {out₁ : List ℕ} {next : ℕ} (wrote : Written (take at out ++ three i j n) out out₁ next) where
-      line : Put out out₁ at (three i k n) next
-      line = written_put line_room (subst (λ (x : ℕ). Written (take at out ++ three i x n) out out₁ next) same wrote)
+    module _ {j : ℕ} (same : j ≡ k) {out₁ : List ℕ} {o : code.Option ℕ} (wrote : Written (take at out ++ three i j n) out out₁ o) where
+      wrote_line : Written (take at out ++ three i k n) out out₁ o
+      wrote_line = subst (λ (x : ℕ). Written (take at out ++ three i x n) out out₁ o) same wrote
 
-      pub race_ready : Ready 14 s' out₁ next
-      race_ready = record {
-        held = moved.after;
-        bench = moved.bench;
-        space = let l = line_length in let h = w.space in let e = line.end in let f = put_length line in omega arith;
-      }
+      pub step_some : code.IsSome o
+      step_some = put_some out at _ line_room wrote_line
 
-      pub tries_made : {out' : List ℕ} {r : ControlFlow ℕ ℕ} → Races s' out₁ next out' r → Tries (λ S. tried sixteen S i) s out at s' out' (Some r)
-      unfolding step_text
-      tries_made {out'} {r} q = record { tells = tell; beyond = moved.beyond }
-        where
-          tell : (S : State) → Bench s S → Told S s' out out' at (tried sixteen S i) (Some r)
-          tell S b =
-              let v = step_made b a in
-              subst (λ (o : Option Made). Told S s' out out' at o (Some r)) (sym v.try) (by v.bench (race 0 v.after.threads) refl (q.tells v.after v.bench))
-            where
-              by : {T : State} → Bench s' T → (o : Option Race) → race 0 T.threads ≡ o → {e : ControlFlow ℕ ℕ} → Raced out₁ out' next o e
-                  → Told S s' out out' at (some (made_in T)) (Some e)
-              by {T} b (some r) e (between x) =
-                  ends {m = made_in T} (three i k n ++ race_line r.first r.second r.cell) b (λ rest. rw e) (put_then line x)
-                  (omega (arith, length-append (three i k n) (race_line r.first r.second r.cell), race_length b e, line_length))
-              by {T} b none e (quiet x) = goes_on {m = made_in T} (three i k n) b (λ rest. rw e) (subst (λ (y : List ℕ). Put out y at (three i k n) next) (sym x) line) line_length
+      module _ {next : ℕ} (place : o ≡ Some next) where
+        line : Put out out₁ at (three i k n) next
+        line = written_put line_room wrote_line place
+
+        pub race_ready : Ready 14 s' out₁ next
+        race_ready = record {
+          held = moved.after;
+          bench = moved.bench;
+          space = let l = line_length in let h = w.space in let e = line.end in let f = put_length line in omega arith;
+        }
+
+        pub tries_made : {out' : List ℕ} {r : ControlFlow ℕ ℕ} → Races s' out₁ next out' r → Tries (λ S. tried sixteen S i) s out at s' out' (Some r)
+        unfolding step_text
+        tries_made {out'} {r} q = record { tells = tell; beyond = moved.beyond }
+          where
+            tell : (S : State) → Bench s S → Told S s' out out' at (tried sixteen S i) (Some r)
+            tell S b =
+                let v = step_made b a in
+                subst (λ (o : Option Made). Told S s' out out' at o (Some r)) (sym v.try) (by v.bench (race 0 v.after.threads) refl (q.tells v.after v.bench))
+              where
+                by : {T : State} → Bench s' T → (o : Option Race) → race 0 T.threads ≡ o → {e : ControlFlow ℕ ℕ} → Raced out₁ out' next o e
+                    → Told S s' out out' at (some (made_in T)) (Some e)
+                by {T} b (some r) e (between x) =
+                    ends {m = made_in T} (three i k n ++ race_line r.first r.second r.cell) b (λ rest. rw e) (put_then line x)
+                    (omega (arith, length-append (three i k n) (race_line r.first r.second r.cell), race_length b e, line_length))
+                by {T} b none e (quiet x) = goes_on {m = made_in T} (three i k n) b (λ rest. rw e) (subst (λ (y : List ℕ). Put out y at (three i k n) next) (sym x) line) line_length

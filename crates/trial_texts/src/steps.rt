@@ -12,22 +12,23 @@ use places::byte_at;
 use states::race;
 use std::ops::ControlFlow;
 
-// The race's line, if there is one after a step: the text ends behind it, or goes on from where it was.
+// The race's line, if there is one after a step: the text ends behind it, or goes on from where it was. There is room for it: `Ready`.
 fn after_step(state: &[u8], out: &mut [u8], at: usize) -> ControlFlow<usize, usize>
     requires { Ready 14 state.now out.old at }
     ensures { Races state.now out.old at out.new result }
 {
     match race(state) {
         Ok(Some(pair)) => {
-            let end = race_line(pair.first, pair.second, pair.cell, out, at);
+            let end = race_line(pair.first, pair.second, pair.cell, out, at).unwrap();
             ControlFlow::Break(end)
         }
+        // Two arms: an or-pattern with `Ok(None)` in it gives the proof no facts.
         Ok(None) => ControlFlow::Continue(at),
         Err(_) => ControlFlow::Continue(at),
     }
 }
 
-// The line of a thread's step, and the race after it; none where it makes no step.
+// The line of a thread's step, and the race after it, for which there is room: `Ready`. None where it makes no step.
 fn step_line(
     state: &mut [u8],
     thread: u64,
@@ -41,7 +42,7 @@ fn step_line(
         return None;
     };
     let kind = u64::from(made.kind.number());
-    let next = three(thread, kind, made.number as u64, out, at);
+    let next = three(thread, kind, made.number as u64, out, at).unwrap();
     Some(after_step(state, out, next))
 }
 

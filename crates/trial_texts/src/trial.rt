@@ -9,6 +9,7 @@ ghost use Rattle.trial_texts.specs.TrialText.{TrialTexts};
 
 use crate::lines::load_line;
 use crate::steps::{default_text, schedule_text};
+use answers::Refusal;
 use loads::entry::raw_load;
 use places::two_at;
 use texts::entry::{ShortBuffer, judge_text};
@@ -43,20 +44,18 @@ fn run_text(schedule: &[u8], state: &mut [u8], out: &mut [u8], at: usize) -> usi
     schedule_text(schedule, state, out, at)
 }
 
-// What the raw load gives, run; or its refusal. A refusal of the first reading, 2 to 9, is the judge's too, and no more is printed.
+// What the raw load gives, run; or its refusal. Any but its own, that the erased form is too long, is one of the first reading, 2 to 9: it is the judge's
+// too, and no more is printed.
 fn load_text(image: &[u8], schedule: &[u8], state: &mut [u8], out: &mut [u8], at: usize) -> usize
     requires { LoadReady schedule.now state.old out.old at }
     ensures { LoadPrints image.now schedule.now state.old out.old at state.new out.new result }
 {
     match raw_load(image, state) {
         Ok(()) => run_text(schedule, state, out, at),
-        Err(refusal) => {
-            let n = refusal.number();
-            if n < 10 {
-                return at;
-            }
-            load_line(n, out, at)
-        }
+        Err(refusal) => match refusal {
+            Refusal::ErasedLong => load_line(refusal.number(), out, at).unwrap(), // shorter than the run's lines, which have room
+            _ => at,
+        },
     }
 }
 

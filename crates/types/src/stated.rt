@@ -1,24 +1,31 @@
 // The readers of a type's bytes: each answers the place after what it read, or what is wrong and where.
 ghost use Rattle.std.specs.Prelude.{◌≡◌, ◌+◌, ◌^◌, leb, ltb, length, get_or};
 ghost use Rattle.paper.specs.Base.{word32};
-ghost use Rattle.types.specs.Contract.{NameRead, SetRead, TypeRead, TypeLed, StatedRead};
+ghost use Rattle.types.specs.Contract.{byte_below, NameRead, SetRead, TypeRead, TypeLed, StatedRead};
 
 use answers::Refusal;
 use codes::TypeCode;
+
+// A name's or an index's byte, which is below the number that are bound; `unbound` is what is answered where it is not.
+#[inline]
+pub fn read_below(s: &[u8], at: usize, bound: u8, unbound: Refusal) -> Result<usize, Refusal>
+    ensures { result ≡ byte_below s.now at bound unbound }
+{
+    if s.len() <= at {
+        return Err(Refusal::CutImage(s.len()));
+    }
+    if s[at] < bound {
+        Ok(at + 1)
+    } else {
+        Err(unbound)
+    }
+}
 
 // A lock's name.
 pub fn read_name(s: &[u8], at: usize, locks: u8) -> Result<usize, Refusal>
     ensures { NameRead s.now at locks result }
 {
-    if s.len() <= at {
-        return Err(Refusal::CutImage(s.len()));
-    }
-    let name = s[at];
-    if name < locks {
-        Ok(at + 1)
-    } else {
-        Err(Refusal::UnboundName(at))
-    }
+    read_below(s, at, locks, Refusal::UnboundName(at))
 }
 
 // Whether four bytes stand at a place.
@@ -69,14 +76,16 @@ pub fn read_set(s: &[u8], at: usize, locks: u8) -> Result<usize, Refusal>
     }
 }
 
-// A type before its last part: read whole, where it has none, with the place after it; or the last part's place.
+// A type before its last part: read whole, where it has none, with the place after it; or the last part's place. No ControlFlow<usize, usize> (d):
+// `Break(p)` and `Continue(p)` don't say which place p is; and no type shared with the reading's Lead, whose last part has a Scope beside its place.
 #[derive(Clone, Copy, Debug, PartialEq, Eq)]
 pub(crate) enum Lead {
     Whole(usize),
     Last(usize),
 }
 
-// The type at `at`, with `left` of the nesting left, up to its last part: a Ref's content, or a Function's result.
+// The type at `at`, with `left` of the nesting left, up to its last part: a Ref's content, or a Function's result. Cut, or no code: two tests here, in
+// read_stated, the reading and the lister (d): one function for them in codes, which knows no refusal, needs answers below it and a law for both codes.
 #[cycle(leads)]
 fn read_lead(s: &[u8], at: usize, locks: u8, left: u8) -> Result<Lead, Refusal>
     ensures { TypeLed s.now at locks left result }
@@ -94,6 +103,7 @@ fn read_lead(s: &[u8], at: usize, locks: u8, left: u8) -> Result<Lead, Refusal>
         TypeCode::Unit | TypeCode::Int => Ok(Lead::Whole(at + 1)),
         TypeCode::Lock | TypeCode::Ref => {
             let p = read_name(s, at + 1, locks)?;
+            // (b): an arm for each makes the outer match a jump table; random stated types, Functions among them, then took 47 ns each instead of 44.
             match code {
                 TypeCode::Lock => Ok(Lead::Whole(p)),
                 _ => Ok(Lead::Last(p)),

@@ -1,9 +1,8 @@
 // The lines of the judge: `J image answer place - type`, where answer 0 is accepted.
-use crate::buffers::PATTERN;
+use crate::buffers::{IMAGE, PATTERN, WORK, filled};
+use crate::due;
 use crate::fields::{field, numbers, past_two, rest};
-use crate::reports::Outcome;
 use crate::rows::{Row, judge_row};
-use crate::{buffers, due};
 use judging::entry::judge;
 use lines::digits::bytes;
 
@@ -28,43 +27,37 @@ fn read_due(fields: &[u8], types: &mut [u8]) -> Option<Row> {
 }
 
 // Lends more than the judge asks for, so that what it may not touch is seen.
-fn judged_on(image: &[u8], due: Row, due_types: &[u8]) -> Outcome {
+fn judged_on(image: &[u8], due: Row, due_types: &[u8]) -> bool {
     let mut types = [PATTERN; 300];
-    let mut work = buffers::work();
+    let mut work = filled::<WORK>(PATTERN);
     let row = judge_row(judge(image, &mut types, &mut work));
-    Outcome::from(due::as_due(row, due, &types, due_types, &work))
+    due::as_due(row, due, &types, due_types, &work)
 }
 
-pub(crate) fn judged(line: &[u8]) -> Outcome {
+pub(crate) fn judged(line: &[u8]) -> Option<bool> {
     let fields = rest(line);
     let mut types = [PATTERN; 300];
-    let Some(due) = read_due(rest(fields), &mut types) else {
-        return Outcome::Unreadable;
-    };
-    let mut image = buffers::image();
-    let Some(n) = bytes(field(fields), &mut image) else {
-        return Outcome::Unreadable;
-    };
-    judged_on(due::first(&image, n), due, &types)
+    let due = read_due(rest(fields), &mut types)?;
+    let mut image = filled::<IMAGE>(0);
+    let n = bytes(field(fields), &mut image)?;
+    Some(judged_on(due::first(&image, n), due, &types))
 }
 
 // Answer 1 of the judge, on the image of a line.
-fn on_short(line: &[u8], types: &mut [u8], work: &mut [u8]) -> Outcome {
-    let mut image = buffers::image();
-    let Some(n) = bytes(field(rest(line)), &mut image) else {
-        return Outcome::Unreadable;
-    };
+fn on_short(line: &[u8], types: &mut [u8], work: &mut [u8]) -> Option<bool> {
+    let mut image = filled::<IMAGE>(0);
+    let n = bytes(field(rest(line)), &mut image)?;
     let row = judge_row(judge(due::first(&image, n), types, work));
-    Outcome::from(due::untouched(row, types, work))
+    Some(due::untouched(row, types, work))
 }
 
-pub(crate) fn with_short_types(line: &[u8]) -> Outcome {
+pub(crate) fn with_short_types(line: &[u8]) -> Option<bool> {
     let mut types = [PATTERN; 255];
-    let mut work = buffers::work();
+    let mut work = filled::<WORK>(PATTERN);
     on_short(line, &mut types, &mut work)
 }
 
-pub(crate) fn with_short_work(line: &[u8]) -> Outcome {
+pub(crate) fn with_short_work(line: &[u8]) -> Option<bool> {
     let mut types = [PATTERN; 300];
     let mut work = [PATTERN; 40959];
     on_short(line, &mut types, &mut work)

@@ -1,8 +1,8 @@
 // The lines of the lister: `N image at code CODE PLACE NEXT`, `N image at end` and `N image at refuse NO PLACE`.
+use crate::buffers::{IMAGE, filled};
+use crate::due;
 use crate::fields::{field, numbers, rest};
-use crate::reports::Outcome;
 use crate::rows::{Row, item_row};
-use crate::{buffers, due};
 use lines::digits::bytes;
 use lister::next;
 
@@ -27,14 +27,10 @@ fn read_due(fields: &[u8]) -> Option<(usize, Row)> {
     Some((at, read_item(rest(fields))?))
 }
 
-pub(crate) fn listed(line: &[u8]) -> Outcome {
+pub(crate) fn listed(line: &[u8]) -> Option<bool> {
     let fields = rest(line);
-    let Some((at, due)) = read_due(rest(fields)) else {
-        return Outcome::Unreadable;
-    };
-    let mut image = buffers::image();
-    let Some(length) = bytes(field(fields), &mut image) else {
-        return Outcome::Unreadable;
-    };
-    Outcome::from(item_row(next(due::first(&image, length), at)) == due)
+    let (at, due) = read_due(rest(fields))?;
+    let mut image = filled::<IMAGE>(0);
+    let n = bytes(field(fields), &mut image)?;
+    Some(item_row(next(due::first(&image, n), at)) == due)
 }

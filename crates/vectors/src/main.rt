@@ -19,12 +19,14 @@ mod run_lines; // run_lines.rt: the lines of the two runs
 mod text_lines; // text_lines.rt: the lines of the trial's text
 mod reports; // reports.rt: what is printed, and the counts
 
+use buffers::{INPUT, filled};
 use kinds::{Kind, kind_of};
-use lines::cut::{LINE_END, before};
+use lines::cut::{LINE_END, after, before};
 use reports::{Counts, Outcome};
 use std::io;
 
-fn run(kind: Kind, line: &[u8]) -> Outcome {
+// Whether everything was as due. None where a field of the line is not what it should be.
+fn run(kind: Kind, line: &[u8]) -> Option<bool> {
     match kind {
         Kind::Judge => judge_lines::judged(line),
         Kind::RawLoad => load_lines::raw_loaded(line),
@@ -42,7 +44,7 @@ fn one(rt: &impl Print, line: &[u8], number: usize, counts: &mut Counts) -> io::
     let Ok(kind) = kind_of(line) else {
         return reports::unreadable(rt, number);
     };
-    let outcome = run(kind, line);
+    let outcome = Outcome::from(run(kind, line));
     counts.add(kind, outcome);
     reports::vector(rt, kind, number, outcome)
 }
@@ -50,28 +52,27 @@ fn one(rt: &impl Print, line: &[u8], number: usize, counts: &mut Counts) -> io::
 fn run_all(rt: &impl Print, s: &[u8]) -> io::Result<()> {
     let mut counts = Counts::new();
     let mut number = 0;
-    let mut at = 0;
-    while at < s.len() {
-        let line = before(&s[at..], LINE_END);
+    let mut left = s;
+    while !left.is_empty() {
         number = reports::more(number);
-        one(rt, line, number, &mut counts)?;
-        at = at + line.len() + 1;
+        one(rt, before(left, LINE_END), number, &mut counts)?;
+        left = after(left, LINE_END);
     }
     short_buffers(rt, before(s, LINE_END))?;
     counts.print(rt)
 }
 
 fn short_buffers(rt: &impl Print, line: &[u8]) -> io::Result<()> {
-    let types = judge_lines::with_short_types(line);
+    let types = Outcome::from(judge_lines::with_short_types(line));
     println!(rt; "short type buffer {types}")?;
-    let work = judge_lines::with_short_work(line);
+    let work = Outcome::from(judge_lines::with_short_work(line));
     println!(rt; "short work buffer {work}")
 }
 
 fn main(rt: HostRuntime) -> io::Result<()> {
-    let mut input = buffers::input();
+    let mut input = filled::<INPUT>(0);
     let n = intake::fill(&mut rt.stdin(), &mut input)?;
-    if n == 1600000 {
+    if n == INPUT {
         println!(&rt; "input too long")?;
     }
     run_all(&rt, &input[..n])

@@ -1,9 +1,9 @@
 // The lines of the race finder: `R state answer i j cell`, or `R state answer -` where there is no pair.
+use crate::buffers::{PATTERN, STATE, filled};
 use crate::fields::{field, numbers, rest};
-use crate::reports::Outcome;
 use crate::rows::{Row, race_row};
 use crate::sparse::Lent;
-use crate::{buffers, due, sparse};
+use crate::{due, sparse};
 use states::race;
 
 // The answer that is due.
@@ -16,18 +16,14 @@ fn read_due(fields: &[u8]) -> Option<Row> {
     Some(Row::Three(answer, first, second, cell))
 }
 
-fn race_on(fields: &[u8], due: Row, lent: Lent) -> Outcome {
-    let mut state = buffers::state();
-    let Some(length) = sparse::state(field(fields), &mut state) else {
-        return Outcome::Unreadable;
-    };
-    Outcome::from(race_row(race(due::first(&state, lent.of(length)))) == due)
+fn race_on(fields: &[u8], due: Row, lent: Lent) -> Option<bool> {
+    let mut state = filled::<STATE>(PATTERN);
+    let length = sparse::state(field(fields), &mut state)?;
+    Some(race_row(race(due::first(&state, lent.of(length)))) == due)
 }
 
-pub(crate) fn raced(line: &[u8]) -> Outcome {
+pub(crate) fn raced(line: &[u8]) -> Option<bool> {
     let fields = rest(line);
-    let Some(due) = read_due(rest(fields)) else {
-        return Outcome::Unreadable;
-    };
-    race_on(fields, due, Lent::State).and(race_on(fields, due, Lent::All))
+    let due = read_due(rest(fields))?;
+    Some(race_on(fields, due, Lent::State)? && race_on(fields, due, Lent::All)?)
 }

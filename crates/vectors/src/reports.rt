@@ -9,12 +9,13 @@ pub(crate) enum Outcome {
     Unreadable,
 }
 
-impl From<bool> for Outcome {
-    fn from(passed: bool) -> Outcome {
-        if passed {
-            Outcome::Passed
-        } else {
-            Outcome::Failed
+// Whether everything was as due; None: the line could not be read.
+impl From<Option<bool>> for Outcome {
+    fn from(as_due: Option<bool>) -> Outcome {
+        match as_due {
+            Some(true) => Outcome::Passed,
+            Some(false) => Outcome::Failed,
+            None => Outcome::Unreadable,
         }
     }
 }
@@ -26,16 +27,6 @@ impl fmt::Display for Outcome {
             Outcome::Failed => "FAIL",
             Outcome::Unreadable => "unreadable",
         })
-    }
-}
-
-impl Outcome {
-    // Two tries of one line: what the first was, unless it passed.
-    pub(crate) fn and(self, second: Outcome) -> Outcome {
-        match self {
-            Outcome::Passed => second,
-            Outcome::Failed | Outcome::Unreadable => self,
-        }
     }
 }
 
@@ -78,10 +69,8 @@ impl Counts {
     // A line for each kind that was run.
     pub(crate) fn print(&self, rt: &impl Print) -> io::Result<()> {
         let kinds = KINDS;
-        for kind in &kinds {
-            let run = self.of[*kind as usize].run;
-            let failed = self.of[*kind as usize].failed;
-            if 0 < run {
+        for (kind, Count { run, failed }) in kinds.iter().zip(&self.of) {
+            if 0 < *run {
                 println!(rt; "{run} {kind} run, {failed} failed")?;
             }
         }

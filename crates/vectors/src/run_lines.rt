@@ -2,7 +2,6 @@
 use crate::calls::compared;
 use crate::due;
 use crate::fields::{field, numbers, past_four, rest};
-use crate::reports::Outcome;
 use crate::rows::{Row, default_row, run_row};
 use lines::digits::bytes;
 use machine::default_run::default_run;
@@ -21,12 +20,10 @@ fn read_limit(fields: &[u8]) -> Option<(u64, Row)> {
     Some((limit as u64, Row::One(answer, steps)))
 }
 
-pub(crate) fn scheduled(line: &[u8]) -> Outcome {
+pub(crate) fn scheduled(line: &[u8]) -> Option<bool> {
     let fields = rest(line);
     let mut buffer = [0u8; 1000];
-    let Some((n, due)) = read_schedule(rest(fields), &mut buffer) else {
-        return Outcome::Unreadable;
-    };
+    let (n, due) = read_schedule(rest(fields), &mut buffer)?;
     let schedule = due::first(&buffer, n);
     compared(
         field(fields),
@@ -36,11 +33,9 @@ pub(crate) fn scheduled(line: &[u8]) -> Outcome {
     )
 }
 
-pub(crate) fn by_default(line: &[u8]) -> Outcome {
+pub(crate) fn by_default(line: &[u8]) -> Option<bool> {
     let fields = rest(line);
-    let Some((limit, due)) = read_limit(rest(fields)) else {
-        return Outcome::Unreadable;
-    };
+    let (limit, due) = read_limit(rest(fields))?;
     compared(
         field(fields),
         past_four(fields),

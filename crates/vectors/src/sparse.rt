@@ -1,4 +1,6 @@
 // A state as a field: `length:offset=hex+offset=hex`, every other byte zero.
+use crate::buffers::STATE;
+use crate::due::STATE_BYTES;
 use lines::cut::{after, before};
 use lines::digits::{decimal, hex};
 
@@ -35,7 +37,7 @@ pub(crate) fn state(field: &[u8], out: &mut [u8]) -> Option<usize> {
 pub(crate) fn pair(first: &[u8], last: &[u8], out: &mut [u8], due: &mut [u8]) -> Option<usize> {
     let length = state(first, out)?;
     let after = state(last, due)?;
-    if after == length { Some(length) } else { None }
+    (after == length).then_some(length)
 }
 
 // How much of a buffer is lent: as much as the state is long, or, where that is a whole state's length, all of it.
@@ -47,8 +49,8 @@ pub(crate) enum Lent {
 
 impl Lent {
     pub(crate) fn of(self, length: usize) -> usize {
-        if self == Lent::All && 49408 <= length {
-            49500
+        if self == Lent::All && STATE_BYTES <= length {
+            STATE
         } else {
             length
         }

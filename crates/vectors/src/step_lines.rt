@@ -1,7 +1,6 @@
 // The lines of the step: `T state i answer kind number state'`.
 use crate::calls::compared;
 use crate::fields::{field, numbers, past_four, rest};
-use crate::reports::Outcome;
 use crate::rows::{Row, step_row};
 use machine::entry::step;
 
@@ -11,11 +10,9 @@ fn read_due(fields: &[u8]) -> Option<(u64, Row)> {
     Some((thread as u64, Row::Two(answer, kind, number)))
 }
 
-pub(crate) fn stepped(line: &[u8]) -> Outcome {
+pub(crate) fn stepped(line: &[u8]) -> Option<bool> {
     let fields = rest(line);
-    let Some((thread, due)) = read_due(rest(fields)) else {
-        return Outcome::Unreadable;
-    };
+    let (thread, due) = read_due(rest(fields))?;
     let last = rest(past_four(fields));
     compared(
         field(fields),

@@ -1,9 +1,9 @@
 -- What there is to know of paper's decimal numbers and hex digits: how they grow by one digit, and how long they get.
-use Rattle.std.specs.Prelude.{◌≡◌, refl, Bool, true, false, List, [], ◌∷◌, ◌++◌, ℕ, zero, suc, ◌+◌, ◌*◌, ◌/◌, ◌%◌, ◌^◌, ◌<◌, ◌≤◌, ltb, length, take, get_or}
-use Rattle.std.proofs.Common.{ap, ◌∙◌, pow-suc, add-one, arith, length-append, take_all, lt-ltb, le-ltb, ltb-true, ltb-false}
+use Rattle.std.specs.Prelude.{Option, Some, None, ◌≡◌, refl, Bool, true, false, List, [], ◌∷◌, ◌++◌, ℕ, zero, suc, ◌+◌, ◌*◌, ◌/◌, ◌%◌, ◌^◌, ◌<◌, ◌≤◌, ltb, length, take, drop, get_or}
+use Rattle.std.proofs.Common.{take_all, ap, sym, take-append-drop, ◌∙◌, pow-suc, add-one, arith, length-append, lt-ltb, le-ltb, ltb-true, ltb-false}
 use Rattle.std.proofs.Math.Seq.{take-suc}
 use Rattle.paper.specs.Texts.{digits, decimal, hex_digit, hex}
-use Rattle.writing.specs.Written.{Written, then_written}
+use Rattle.writing.specs.Written.{Written, both_written, both_short}
 
 -- ---- decimal
 
@@ -81,15 +81,23 @@ unfolding hex
 hex_append [] t = refl
 hex_append (b ∷ s) t = rw (hex_append s t)
 
-module _ (s : List ℕ) (i : ℕ) (d : List ℕ) (at : ℕ) {d₁ : List ℕ} {r₁ : ℕ} where
+module _ (s : List ℕ) (i : ℕ) (d : List ℕ) (at : ℕ) {d₁ : List ℕ} {n : ℕ} (h : i < length s) (w : Written (take at d ++ hex (take i s)) d d₁ (Some n)) where
   -- the two digits of the next byte
-  pub hex_turn : i < length s → Written (take at d ++ hex (take i s)) d d₁ r₁ → {x y : ℕ} → x ≡ hex_digit (get_or s i 0 / 16) → y ≡ hex_digit (get_or s i 0 % 16)
-      → {d₂ : List ℕ} {r₂ : ℕ} → Written (take r₁ d₁ ++ (x ∷ y ∷ [])) d₁ d₂ r₂ → Written (take at d ++ hex (take (i + 1) s)) d d₂ r₂
+  pub hex_turn : {x y : ℕ} → x ≡ hex_digit (get_or s i 0 / 16) → y ≡ hex_digit (get_or s i 0 % 16)
+      → {d₂ : List ℕ} {r : Option ℕ} → Written (take n d₁ ++ (x ∷ y ∷ [])) d₁ d₂ r → Written (take at d ++ hex (take (i + 1) s)) d d₂ r
   unfolding hex
-  hex_turn h w {x} {y} e f {d₂} {r₂} z =
+  hex_turn {x} {y} e f {d₂} {r} z =
       let g : hex (take (i + 1) s) ≡ hex (take i s) ++ (x ∷ y ∷ []) =
       rw (add-one i, take-suc s i 0 h, e, f) (hex_append (take i s) (get_or s i 0 ∷ [])) in
-      rw g (then_written d (hex (take i s)) at w (x ∷ y ∷ []) (omega arith) z)
+      rw g (both_written d (hex (take i s)) at w (x ∷ y ∷ []) refl z)
 
-  pub hex_end : length s ≤ i → Written (take at d ++ hex (take i s)) d d₁ r₁ → Written (take at d ++ hex s) d d₁ r₁
-  hex_end h w = rw (take_all i s h) at w
+  -- they do not fit
+  pub hex_short : {x y : ℕ} → x ≡ hex_digit (get_or s i 0 / 16) → y ≡ hex_digit (get_or s i 0 % 16)
+      → {d₂ : List ℕ} {r q : Option ℕ} → Written (take n d₁ ++ (x ∷ y ∷ [])) d₁ d₂ r → r ≡ None → q ≡ None → Written (take at d ++ hex s) d d₂ q
+  hex_short e f z a b =
+      let g : hex s ≡ hex (take (i + 1) s) ++ hex (drop (i + 1) s) = ap hex (sym (take-append-drop (i + 1) s)) ∙ hex_append (take (i + 1) s) (drop (i + 1) s) in
+      rw g (both_short d (hex (take (i + 1) s)) at (hex_turn e f z) (hex (drop (i + 1) s)) a b)
+
+pub hex_end : (s : List ℕ) (i : ℕ) (d : List ℕ) (at : ℕ) {d₁ : List ℕ} {r : Option ℕ} → length s ≤ i → Written (take at d ++ hex (take i s)) d d₁ r
+    → Written (take at d ++ hex s) d d₁ r
+hex_end s i d at h w = rw (take_all i s h) at w

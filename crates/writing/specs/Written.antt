@@ -1,6 +1,6 @@
 -- Bytes that are written first into a lent buffer, as far as there is room, with the rest of it as it was: what every function that writes behind
--- what stands there says of it. The answer is how many bytes, or one more than the buffer has where they do not fit.
-use Rattle.std.specs.Prelude.{◌≡◌, refl, Bool, true, false, ℕ, ◌+◌, ◌-◌, ◌<◌, ◌≤◌, min, leb, take}
+-- what stands there says of it. The answer is how many bytes, or None where they do not fit.
+use Rattle.std.specs.Prelude.{Option, Some, None, IsSome, ◌≡◌, refl, Bool, true, false, ℕ, ◌+◌, ◌-◌, ◌<◌, ◌≤◌, min, leb, take}
 use Rattle.std.proofs.Common.{sym, ◌∙◌, arith, drop_of_length-le, take-append-drop, drop-drop, le-leb, leb-true, leb-false}
 use Rattle.std.proofs.Math.Path.{ap, subst}
 use mathlib.Core.List.{List, [], ◌++◌, append_assoc, append-nil}
@@ -13,17 +13,18 @@ use Rattle.std.proofs.lemmas.Bool.{lt-leb}
 use Rattle.paper.specs.Base.{choose}
 use Rattle.paper.specs.Calls.{laid}
 
-unfoldable pub room_for : ℕ → ℕ → ℕ
-room_for n m = choose (leb n m) (λ _. n) (λ _. m + 1)
+-- the place after n bytes in a buffer of m, where there is room for them
+unfoldable pub end_in : ℕ → ℕ → Option ℕ
+end_in n m = choose (leb n m) (λ _. Some n) (λ _. None)
 
 unfoldable pub over : List ℕ → List ℕ → List ℕ
 over res before = take (length before) (laid res before)
 
-pub record Written (res before after : List ℕ) (r : ℕ) : Type 0 where
-  pub says : r ≡ room_for (length res) (length before)
+pub record Written (res before after : List ℕ) (r : Option ℕ) : Type 0 where
+  pub says : r ≡ end_in (length res) (length before)
   pub bytes : after ≡ over res before
 
-pub written_one : {res before after after' : List ℕ} {r r' : ℕ} → Written res before after r → Written res before after' r'
+pub written_one : {res before after after' : List ℕ} {r r' : Option ℕ} → Written res before after r → Written res before after' r'
     → (r ≡ r') × (after ≡ after')
 written_one a b = (a.says ∙ sym b.says, a.bytes ∙ sym b.bytes)
 
@@ -44,51 +45,58 @@ module _ (res before : List ℕ) where
   unfolding over laid
   over_short h = take-append-le (length before) res (drop (length res) before) (omega arith)
 
-  room_fits : length res ≤ length before → room_for (length res) (length before) ≡ length res
-  unfolding room_for
-  room_fits h = rw (le-leb _ _ h)
+  end_fits : length res ≤ length before → end_in (length res) (length before) ≡ Some (length res)
+  unfolding end_in
+  end_fits h = rw (le-leb _ _ h)
 
-  room_short : length before < length res → room_for (length res) (length before) ≡ length before + 1
-  unfolding room_for
-  room_short h = rw (lt-leb _ _ h)
+  end_short : length before < length res → end_in (length res) (length before) ≡ None
+  unfolding end_in
+  end_short h = rw (lt-leb _ _ h)
 
-module _ {res before after : List ℕ} {r : ℕ} (w : Written res before after r) where
+module _ {res before after : List ℕ} {r : Option ℕ} (w : Written res before after r) where
   pub written_length : length after ≡ length before
   unfolding over laid
   written_length =
       ap length w.bytes
       ∙ length-take-le (length before) (laid res before) (omega (arith, length-append res (drop (length res) before), length-drop (length res) before))
 
-  pub written_room : length res ≤ length before → Fits res before after r
-  written_room l = record { all = w.says ∙ room_fits res before l; bytes = w.bytes ∙ over_fits res before l; room = l }
+  pub written_room : length res ≤ length before → (r ≡ Some (length res)) × Fits res before after (length res)
+  written_room l = (w.says ∙ end_fits res before l, record { all = refl; bytes = w.bytes ∙ over_fits res before l; room = l })
 
-  pub written_fits : r ≤ length before → Fits res before after r
-  written_fits h = go (leb (length res) (length before)) refl
+  pub written_some : length res ≤ length before → IsSome r
+  written_some l = subst IsSome (sym (written_room l).0) refl
+
+  pub written_fits : {n : ℕ} → r ≡ Some n → Fits res before after n
+  written_fits {n} q = go (leb (length res) (length before)) refl
     where
-      go : (b : Bool) → leb (length res) (length before) ≡ b → Fits res before after r
-      go true e = written_room (leb-true _ _ e)
-      go false e = let n = w.says ∙ room_short res before (leb-false _ _ e) in absurd (omega arith)
+      go : (b : Bool) → leb (length res) (length before) ≡ b → Fits res before after n
+      go true e =
+          let l = leb-true _ _ e in
+          let o : Some n ≡ Some (length res) = sym q ∙ (written_room l).0 in
+          let z : length res ≡ n = cc in
+          subst (Fits res before after) z (written_room l).1
+      go false e = let o : Some n ≡ None = sym q ∙ w.says ∙ end_short res before (leb-false _ _ e) in cc
 
-  long : length before < r → length before < length res
-  long h = go (leb (length res) (length before)) refl
+  pub written_long : r ≡ None → length before < length res
+  written_long q = go (leb (length res) (length before)) refl
     where
       go : (b : Bool) → leb (length res) (length before) ≡ b → length before < length res
-      go true e = let l = leb-true (length res) (length before) e in let n = w.says ∙ room_fits res before l in absurd (omega arith)
-      go false e = leb-false (length res) (length before) e
+      go true e = let o : None ≡ Some (length res) = sym q ∙ w.says ∙ end_fits res before (leb-true _ _ e) in cc
+      go false e = leb-false _ _ e
 
   -- what did not fit does not fit with more
-  pub written_short : length before < r → (rest : List ℕ) → Written (res ++ rest) before after r
-  written_short h rest =
-      let l = long h in
+  pub written_short : r ≡ None → (rest : List ℕ) {q : Option ℕ} → q ≡ None → Written (res ++ rest) before after q
+  written_short e rest f =
+      let l = written_long e in
       let m : length before < length (res ++ rest) = omega (arith, length-append res rest) in
       record {
-        says = w.says ∙ room_short res before l ∙ sym (room_short (res ++ rest) before m);
+        says = f ∙ sym (end_short (res ++ rest) before m);
         bytes = w.bytes ∙ over_short res before l ∙ sym (take-append-le (length before) res rest (omega arith))
             ∙ sym (over_short (res ++ rest) before m);
       }
 
-written_all : (res before : List ℕ) → length res ≤ length before → Written res before (laid res before) (length res)
-written_all res before h = record { says = sym (room_fits res before h); bytes = sym (over_fits res before h) }
+written_all : (res before : List ℕ) → length res ≤ length before → Written res before (laid res before) (Some (length res))
+written_all res before h = record { says = sym (end_fits res before h); bytes = sym (over_fits res before h) }
 
 -- ---- one after the other
 
@@ -111,16 +119,16 @@ stands_first d at h =
 pub fits_stands : {res before after : List ℕ} {r : ℕ} → Fits res before after r → Stands res before after r
 fits_stands f = record { bytes = f.bytes; next = f.all; room = f.room }
 
-stands_written : {x before d : List ℕ} {n : ℕ} → Stands x before d n → Written x before d n
+stands_written : {x before d : List ℕ} {n : ℕ} → Stands x before d n → Written x before d (Some n)
 stands_written {x} {before} s = record
-    { says = s.next ∙ sym (room_fits x before s.room); bytes = s.bytes ∙ sym (over_fits x before s.room) }
+    { says = ap Some s.next ∙ sym (end_fits x before s.room); bytes = s.bytes ∙ sym (over_fits x before s.room) }
 
 pub stands_length : {x before d : List ℕ} {n : ℕ} → Stands x before d n → length d ≡ length before
 unfolding laid
 stands_length {x} {before} s = let h = s.room in ap length s.bytes ∙ simp (length-append, length-drop) (omega arith)
 
 -- v written behind x is x and v written
-pub written_behind : {x before d : List ℕ} {n : ℕ} → Stands x before d n → (v : List ℕ) {d' : List ℕ} {r : ℕ}
+pub written_behind : {x before d : List ℕ} {n : ℕ} → Stands x before d n → (v : List ℕ) {d' : List ℕ} {r : Option ℕ}
     → Written (take n d ++ v) d d' r → Written (x ++ v) before d' r
 unfolding over laid
 written_behind {x} {before} {d} {n} s v {d'} {r} w =
@@ -133,41 +141,29 @@ written_behind {x} {before} {d} {n} s v {d'} {r} w =
     ∙ ap (λ (y : List ℕ). drop (length v) y) (drop-append_seam x (drop (length x) before))
     ∙ drop-drop (length v) (length x) before ∙ ap (λ (k : ℕ). drop k before) (sym (length-append x v)) in
     record {
-      says = w.says ∙ ap (λ (y : List ℕ). room_for (length (y ++ v)) (length d)) e ∙ ap (λ (k : ℕ). room_for (length (x ++ v)) k) l;
+      says = w.says ∙ ap (λ (y : List ℕ). end_in (length (y ++ v)) (length d)) e ∙ ap (λ (k : ℕ). end_in (length (x ++ v)) k) l;
       bytes = w.bytes ∙ ap (λ (y : List ℕ). take (length d) ((y ++ v) ++ drop (length (y ++ v)) d)) e
           ∙ ap (λ (k : ℕ). take k ((x ++ v) ++ drop (length (x ++ v)) d)) l
           ∙ ap (λ (y : List ℕ). take (length before) ((x ++ v) ++ y)) t;
     }
 
 -- x written behind what stands before `at`, and v behind x
-module _ (d x : List ℕ) (at : ℕ) {d₁ : List ℕ} {r₁ : ℕ} (w : Written (take at d ++ x) d d₁ r₁) (v : List ℕ) where
-  pub both_short : length d < r₁ → Written (take at d ++ (x ++ v)) d d₁ r₁
-  both_short h = subst (λ (y : List ℕ). Written y d d₁ r₁) (append_assoc (take at d) x v) (written_short w h v)
+module _ (d x : List ℕ) (at : ℕ) {d₁ : List ℕ} {r₁ : Option ℕ} (w : Written (take at d ++ x) d d₁ r₁) (v : List ℕ) where
+  pub both_short : r₁ ≡ None → {r : Option ℕ} → r ≡ None → Written (take at d ++ (x ++ v)) d d₁ r
+  both_short e {r} f = subst (λ (y : List ℕ). Written y d d₁ r) (append_assoc (take at d) x v) (written_short w e v f)
 
-  pub both_written : r₁ ≤ length d → {d₂ : List ℕ} {r₂ : ℕ} → Written (take r₁ d₁ ++ v) d₁ d₂ r₂ → Written (take at d ++ (x ++ v)) d d₂ r₂
-  both_written h {d₂} {r₂} z =
-      subst (λ (y : List ℕ). Written y d d₂ r₂) (append_assoc (take at d) x v) (written_behind (fits_stands (written_fits w h)) v z)
+  pub both_written : {n : ℕ} → r₁ ≡ Some n → {d₂ : List ℕ} {r : Option ℕ} → Written (take n d₁ ++ v) d₁ d₂ r → Written (take at d ++ (x ++ v)) d d₂ r
+  both_written e {d₂} {r} z =
+      subst (λ (y : List ℕ). Written y d d₂ r) (append_assoc (take at d) x v) (written_behind (fits_stands (written_fits w e)) v z)
 
-  -- where x did not fit no byte is written behind it; of no bytes `fill` would answer that they fit
-  nothing_more : length d < r₁ → 0 < length v → {d₂ : List ℕ} {r₂ : ℕ} → Written (take r₁ d₁ ++ v) d₁ d₂ r₂ → (r₂ ≡ r₁) × (d₂ ≡ d₁)
-  nothing_more h some {d₂} {r₂} z =
-      let l = written_length w in
-      let k = w.says ∙ room_short (take at d ++ x) d (long w h) in
-      let y : Written (d₁ ++ v) d₁ d₂ r₂ = subst (λ (a : List ℕ). Written (a ++ v) d₁ d₂ r₂) (take_all r₁ d₁ (omega arith)) z in
-      let m : length d₁ < length (d₁ ++ v) = omega (arith, length-append d₁ v) in
-      let n = y.says ∙ room_short (d₁ ++ v) d₁ m in
-      (omega arith, y.bytes ∙ over_short (d₁ ++ v) d₁ m ∙ take-append_seam d₁ v)
-
-  pub then_written : 0 < length v → {d₂ : List ℕ} {r₂ : ℕ} → Written (take r₁ d₁ ++ v) d₁ d₂ r₂ → Written (take at d ++ (x ++ v)) d d₂ r₂
-  then_written some {d₂} {r₂} z = go (leb r₁ (length d)) refl
+  -- either way
+  pub then_written : {d₂ : List ℕ} {r : Option ℕ} → ((n : ℕ) → r₁ ≡ Some n → Written (take n d₁ ++ v) d₁ d₂ r)
+      → (r₁ ≡ None → (r ≡ None) × (d₂ ≡ d₁)) → Written (take at d ++ (x ++ v)) d d₂ r
+  then_written {d₂} {r} on stop = go r₁ refl
     where
-      go : (b : Bool) → leb r₁ (length d) ≡ b → Written (take at d ++ (x ++ v)) d d₂ r₂
-      go true e = both_written (leb-true r₁ (length d) e) z
-      go false e =
-          let h = leb-false r₁ (length d) e in
-          let n = nothing_more h some z in
-          let y = both_short h in
-          record { says = n.0 ∙ y.says; bytes = n.1 ∙ y.bytes }
+      go : (o : Option ℕ) → r₁ ≡ o → Written (take at d ++ (x ++ v)) d d₂ r
+      go (Some n) e = both_written e (on n e)
+      go None e = subst (λ (y : List ℕ). Written (take at d ++ (x ++ v)) d y r) (sym (stop e).1) (both_short e (stop e).0)
 
 -- ---- a place past the end is the end
 
@@ -182,10 +178,10 @@ module _ (s : List ℕ) (n k : ℕ) (e : k ≡ min n (length s)) where
           let z : k ≡ length s = omega arith in
           take_all k s (omega arith) ∙ sym (take_all n s (omega arith))
 
-  pub none_written : Written (take n s ++ []) s s k
-  none_written = subst (λ (x : List ℕ). Written x s s k) (cut_first ∙ sym (append-nil (take n s))) (stands_written (stands_first s k (omega arith)))
+  pub none_written : Written (take n s ++ []) s s (Some k)
+  none_written = subst (λ (x : List ℕ). Written x s s (Some k)) (cut_first ∙ sym (append-nil (take n s))) (stands_written (stands_first s k (omega arith)))
 
-  pub cut_written : (v : List ℕ) {d : List ℕ} {r : ℕ} → Written (take k s ++ v) s d r → Written (take n s ++ v) s d r
+  pub cut_written : (v : List ℕ) {d : List ℕ} {r : Option ℕ} → Written (take k s ++ v) s d r → Written (take n s ++ v) s d r
   cut_written v {d} {r} = subst (λ (x : List ℕ). Written (x ++ v) s d r) cut_first
 
 -- ---- the copy in `fill`
@@ -197,7 +193,7 @@ pub record Filling (v d : List ℕ) (at n : ℕ) (d' : List ℕ) (i : ℕ) : Typ
   pub bytes : d' ≡ paste d at v i
 
 module _ (v d : List ℕ) (at : ℕ) (h : at ≤ length d) where
-  filled_all : at + length v ≤ length d → Written (take at d ++ v) d (paste d at v (length v)) (at + length v)
+  filled_all : at + length v ≤ length d → Written (take at d ++ v) d (paste d at v (length v)) (Some (at + length v))
   unfolding laid
   filled_all l =
       let k : length (take at d ++ v) ≡ at + length v = length-append (take at d) v
@@ -205,11 +201,11 @@ module _ (v d : List ℕ) (at : ℕ) (h : at ≤ length d) where
       let e : paste d at v (length v) ≡ laid (take at d ++ v) d =
       ap (λ (y : List ℕ). (take at d ++ y) ++ drop (at + length v) d) (take_all (length v) v (omega arith))
       ∙ ap (λ (n : ℕ). (take at d ++ v) ++ drop n d) (sym k) in
-      subst (λ (n : ℕ). Written (take at d ++ v) d (paste d at v (length v)) n) k
-      (subst (λ (y : List ℕ). Written (take at d ++ v) d y (length (take at d ++ v))) (sym e)
+      subst (λ (n : ℕ). Written (take at d ++ v) d (paste d at v (length v)) (Some n)) k
+      (subst (λ (y : List ℕ). Written (take at d ++ v) d y (Some (length (take at d ++ v)))) (sym e)
       (written_all (take at d ++ v) d (omega arith)))
 
-  filled_short : length d < at + length v → (n : ℕ) → at + n ≡ length d → Written (take at d ++ v) d (paste d at v n) (length d + 1)
+  filled_short : length d < at + length v → (n : ℕ) → at + n ≡ length d → Written (take at d ++ v) d (paste d at v n) None
   filled_short l n e =
       let k : length (take at d ++ v) ≡ at + length v = length-append (take at d) v
       ∙ ap (λ (n : ℕ). n + length v) (length-take-le at d h) in
@@ -219,7 +215,7 @@ module _ (v d : List ℕ) (at : ℕ) (h : at ≤ length d) where
       ap (λ (j : ℕ). take j (take at d ++ v)) (sym e ∙ ap (λ (j : ℕ). j + n) (sym m)) ∙ take-append-add (take at d) v n in
       let z : drop (at + n) d ≡ [] = drop_of_length-le d {i = at + n} (omega arith) in
       record {
-        says = sym (room_short (take at d ++ v) d s);
+        says = sym (end_short (take at d ++ v) d s);
         bytes = ap (λ (y : List ℕ). (take at d ++ take n v) ++ y) z ∙ append-nil (take at d ++ take n v) ∙ sym t
             ∙ sym (over_short (take at d ++ v) d s);
       }
@@ -233,16 +229,16 @@ module _ (v d : List ℕ) (at : ℕ) (h : at ≤ length d) where
         record { few = omega arith; long = ap length b ∙ length-paste d at v n (omega arith) (omega arith); bytes = b }
 
     module _ {d' : List ℕ} {i : ℕ} (f : Filling v d at n d' i) where
-      pub filling_short : n ≤ i → n < length v → Written (take at d ++ v) d d' (length d' + 1)
+      pub filling_short : n ≤ i → n < length v → Written (take at d ++ v) d d' None
       filling_short l m =
           let b = f.few in
           let w = filled_short (omega arith) i (omega arith) in
-          record { says = ap (λ (k : ℕ). k + 1) f.long ∙ w.says; bytes = f.bytes ∙ w.bytes }
+          record { says = w.says; bytes = f.bytes ∙ w.bytes }
 
-      pub filling_all : n ≤ i → length v ≤ n → Written (take at d ++ v) d d' (at + n)
+      pub filling_all : n ≤ i → length v ≤ n → Written (take at d ++ v) d d' (Some (at + n))
       filling_all l m =
           let b = f.few in
           let w = filled_all (omega arith) in
           let e : i ≡ length v = omega arith in
           let k : n ≡ length v = omega arith in
-          record { says = ap (λ (j : ℕ). at + j) k ∙ w.says; bytes = f.bytes ∙ ap (paste d at v) e ∙ w.bytes }
+          record { says = ap (λ (j : ℕ). Some (at + j)) k ∙ w.says; bytes = f.bytes ∙ ap (paste d at v) e ∙ w.bytes }

@@ -1,6 +1,6 @@
 // Bytes into a lent buffer from an offset on, as far as there is room: what a step's expression, the erased bytes of a slot and every printed
-// line are put together from. Each function answers the place after what it wrote, or one more than the buffer's length where not all of it
-// fits, so that the next one writes nothing there; none asks anything of its caller.
+// line are put together from. Each function answers the place after what it wrote, or None where not all of it fits; none asks anything of its
+// caller.
 #![tactic(auto)]
 
 ghost use Rattle.std.specs.Prelude.{◌≡◌, ◌++◌, ◌<◌, min, take};
@@ -16,46 +16,40 @@ pub fn least(a: usize, b: usize) -> usize
 }
 
 // v into dst from `at` on.
-pub fn fill(v: &[u8], dst: &mut [u8], at: usize) -> usize
+pub fn fill(v: &[u8], dst: &mut [u8], at: usize) -> Option<usize>
     ensures { Written (take at dst.old ++ v.now) dst.old dst.new result }
 {
     let from = at.min(dst.len());
     let n = v.len().min(dst.len() - from);
     dst[from..from + n].copy_from_slice(&v[..n]);
-    if n < v.len() {
-        return dst.len() + 1;
-    }
-    from + n
+    if n < v.len() { None } else { Some(from + n) }
 }
 
 // v and w behind it.
-pub fn fill_both(v: &[u8], w: &[u8], dst: &mut [u8], at: usize) -> usize
+pub fn fill_both(v: &[u8], w: &[u8], dst: &mut [u8], at: usize) -> Option<usize>
     ensures { Written (take at dst.old ++ (v.now ++ w.now)) dst.old dst.new result }
 {
-    let first = fill(v, dst, at);
-    if dst.len() < first {
-        return first;
-    }
+    let first = fill(v, dst, at)?;
     fill(w, dst, first)
 }
 
 // The digits of a number, the last one behind those of its tenth part.
-fn digits(n: u64, dst: &mut [u8], at: usize) -> usize
+fn digits(n: u64, dst: &mut [u8], at: usize) -> Option<usize>
     ensures { Written (take at dst.old ++ decimal n) dst.old dst.new result }
 {
     let last = [b'0' + (n % 10) as u8];
     if n < 10 {
         return fill(&last, dst, at);
     }
-    let next = digits(n / 10, dst, at);
+    let next = digits(n / 10, dst, at)?;
     fill(&last, dst, next)
 }
 
 // A number in decimal and the byte that ends it.
-pub fn number(n: u64, end: u8, dst: &mut [u8], at: usize) -> usize
+pub fn number(n: u64, end: u8, dst: &mut [u8], at: usize) -> Option<usize>
     ensures { Written (take at dst.old ++ ended n end) dst.old dst.new result }
 {
-    let next = digits(n, dst, at);
+    let next = digits(n, dst, at)?;
     fill(&[end], dst, next)
 }
 
@@ -69,12 +63,12 @@ fn hex_digit(d: u8) -> u8
 }
 
 // Bytes as pairs of hex digits.
-pub fn hex(bytes: &[u8], dst: &mut [u8], at: usize) -> usize
+pub fn hex(bytes: &[u8], dst: &mut [u8], at: usize) -> Option<usize>
     ensures { Written (take at dst.old ++ hex bytes.now) dst.old dst.new result }
 {
     let mut next = at.min(dst.len());
     for &b in bytes {
-        next = fill(&[hex_digit(b / 16), hex_digit(b % 16)], dst, next);
+        next = fill(&[hex_digit(b / 16), hex_digit(b % 16)], dst, next)?;
     }
-    next
+    Some(next)
 }

@@ -20,16 +20,17 @@ use Rattle.judging.specs.Contract as contract
 use Rattle.judging.proofs.Held.{holds_end}
 use Rattle.judging.proofs.Node.{read_whole}
 use Rattle.judging.proofs.Stated.{stated_got, name_got, set_got}
+use Rattle.judging.proofs.Inversion.{apart}
 
 -- ---- an answer with a place is of something that was read
 told_next : {A : Type 0} (r : Read A) {q : ℕ} → told r ≡ ok q → (a : A) × (r ≡ got a q)
 unfolding told
 told_next (got a p) {q} e = let z : p ≡ q = cc in (a, rw z)
-told_next (wrong k p) e = let z : ◌≡◌ {A = ℕ} 0 1 = cc in absurd (omega arith)
+told_next (wrong k p) e = apart cc
 
 on_next : (r : Out ℕ) (f : ℕ → Out ℕ) {q : ℕ} → on r f ≡ ok q → (p : ℕ) × (r ≡ ok p) × (f p ≡ ok q)
 on_next (ok p) f e = (p, refl, e)
-on_next (refused k p) f e = let z : ◌≡◌ {A = ℕ} 0 1 = cc in absurd (omega arith)
+on_next (refused k p) f e = apart cc
 
 num_next : (s : List ℕ) (at : ℕ) {q : ℕ} → told (num_at s at) ≡ ok q → (q ≡ at + 4) × (q ≤ length s)
 unfolding told num_at
@@ -37,7 +38,7 @@ num_next s at {q} e = go (leb (at + 4) (length s)) refl e
   where
     go : (b : Bool) → leb (at + 4) (length s) ≡ b → told (pick b (got (word32 s at) (at + 4)) (wrong 5 (length s))) ≡ ok q → (q ≡ at + 4) × (q ≤ length s)
     go true l e = let z : q ≡ at + 4 = cc in (z, omega (arith, leb-true (at + 4) (length s) l))
-    go false l e = let z : ◌≡◌ {A = ℕ} 0 1 = cc in absurd (omega arith)
+    go false l e = apart cc
 
 var_next : (v : ℕ) (s : List ℕ) (at : ℕ) {q : ℕ} → told (var_at v s at) ≡ ok q → (q ≡ at + 1) × (q ≤ length s)
 unfolding told var_at
@@ -45,8 +46,8 @@ var_next v s at {q} e = go (ltb at (length s)) (ltb (get_or s at 0) v) refl e
   where
     go : (b c : Bool) → ltb at (length s) ≡ b → told (pick b (pick c (got (get_or s at 0) (at + 1)) (wrong 8 at)) (wrong 5 (length s))) ≡ ok q → (q ≡ at + 1) × (q ≤ length s)
     go true true l e = let z : q ≡ at + 1 = cc in (z, omega (arith, ltb-true at (length s) l))
-    go true false l e = let z : ◌≡◌ {A = ℕ} 0 1 = cc in absurd (omega arith)
-    go false c l e = let z : ◌≡◌ {A = ℕ} 0 1 = cc in absurd (omega arith)
+    go true false l e = apart cc
+    go false c l e = apart cc
 
 -- a stated type that is passed over
 pub record Passed (s : List ℕ) (at q : ℕ) : Type 0 where
@@ -118,7 +119,7 @@ module _ {s : List ℕ} {at v n : ℕ} (o : Own s at v n) where
     where
       lock : (t : Bool) → pick t (ok (at + 1)) (refused 7 at) ≡ ok q → q ≡ at + 1
       lock true e = cc
-      lock false e = let z : ◌≡◌ {A = ℕ} 0 1 = cc in absurd (omega arith)
+      lock false e = apart cc
 
       go : Dec (get_or s at 0 ≡ 10) → q ≡ at + 1
       go (yes e) = lock (ltb n 32) (rw e at o.own)

@@ -1,15 +1,13 @@
 -- A buffer that holds a type has the type's bytes there.
-use mathlib.Core.Path.{◌≡◌, refl, ap, ap₂, sym, ◌∙◌, subst}
+use mathlib.Core.Path.{◌≡◌, ap, ap₂, sym, ◌∙◌, subst}
 use mathlib.Core.List.{List, [], ◌∷◌, ◌++◌}
-use Prim.Native.Nat.{ℕ, zero, suc, ◌+◌, ◌-◌, ◌≤◌, ◌<◌, zero-le, suc-le-suc}
+use Prim.Native.Nat.{ℕ, suc, ◌+◌, ◌-◌, ◌≤◌, ◌<◌}
 use native.Mathlib.Omega.{arith}
-use native.Mathlib.Nat.{add-zero, zero-add}
+use native.Mathlib.Nat.{add-zero}
 use native.Mathlib.Numerals.{add-one}
-use lib.ListN.{length, get_or, drop}
-use lib.Seq.{drop-cons}
-use lib.Dec.{ltb}
-use mathlib.Core.Bool.{Bool, true, false}
-use borrow.Author.Tests.{ltb-true, ltb-false}
+use lib.ListN.{length, get_or, drop, length-drop}
+use lib.Seq.{drop-cons, get_or-drop}
+use Rattle.std.proofs.lemmas.List.{ext_get_or}
 use Rattle.paper.specs.Base.{bytes4}
 use Rattle.paper.specs.Types.{Ty, unit, int, lock, ref, fun, ty_size, ty_bytes}
 use Rattle.paper.specs.Calls.{laid}
@@ -20,18 +18,8 @@ use Rattle.judging.proofs.Held.{size_pos, holds_end}
 use Rattle.judging.proofs.copies.Laws.{holds_copied}
 
 -- two lists of one length with the same bytes from n on
-same_list : (a b : List ℕ) → length a ≡ length b → ((i : ℕ) → get_or a i 0 ≡ get_or b i 0) → a ≡ b
-same_list [] [] e f = refl
-same_list [] (y ∷ b) e f = absurd (omega (arith, e))
-same_list (x ∷ a) [] e f = absurd (omega (arith, e))
-same_list (x ∷ a) (y ∷ b) e f = ap₂ (λ (z : ℕ) (l : List ℕ). z ∷ l) (f 0) (same_list a b (omega (arith, e)) (λ i. f (suc i)))
-
 pub same_drop : (a b : List ℕ) (n : ℕ) → length a ≡ length b → ((i : ℕ) → n ≤ i → get_or a i 0 ≡ get_or b i 0) → drop n a ≡ drop n b
-same_drop a b zero e f = same_list a b e (λ i. f i zero-le)
-same_drop [] [] (suc n) e f = refl
-same_drop [] (y ∷ b) (suc n) e f = absurd (omega (arith, e))
-same_drop (x ∷ a) [] (suc n) e f = absurd (omega (arith, e))
-same_drop (x ∷ a) (y ∷ b) (suc n) e f = same_drop a b n (omega (arith, e)) (λ i h. f (suc i) (suc-le-suc h))
+same_drop a b n e f = ext_get_or 0 (drop n a) (drop n b) (length-drop n a ∙ ap (λ (k : ℕ). k - n) e ∙ sym (length-drop n b)) (λ i l. get_or-drop n a i 0 ∙ f (n + i) (omega arith) ∙ sym (get_or-drop n b i 0))
 
 -- the bytes l stand in s at a place
 abbrev Spells : List ℕ → ℕ → List ℕ → Type 0
@@ -85,14 +73,7 @@ module _ (s : List ℕ) (small : (i : ℕ) → get_or s i 0 < 256) where
   whole t h = spells_drop s (ty_bytes t) 0 (spelt t 0 h) ∙ ap (λ (n : ℕ). ty_bytes t ++ drop n s) (let e : 0 + length (ty_bytes t) ≡ ty_size t = omega (arith, bytes_length t) in e)
 
 -- a type copied to the front of another buffer
-module _ (s w w' : List ℕ) (at p : ℕ) (small_s : (i : ℕ) → get_or s i 0 < 256) (small_w : (i : ℕ) → get_or w i 0 < 256) (c : Copied s at (p - at) w w' 0) where
-  small' : (i : ℕ) → get_or w' i 0 < 256
-  small' i = go (ltb i (p - at)) refl
-    where
-      go : (b : Bool) → ltb i (p - at) ≡ b → get_or w' i 0 < 256
-      go true e = subst (λ (j : ℕ). get_or w' j 0 < 256) (zero-add i) (subst (λ (z : ℕ). z < 256) (sym (c.same i (ltb-true i (p - at) e))) (small_s (at + i)))
-      go false e = subst (λ (z : ℕ). z < 256) (sym (c.kept.high i (let h : p - at ≤ i = ltb-false i (p - at) e in omega arith))) (small_w i)
-
+module _ (s w w' : List ℕ) (at p : ℕ) (small : (i : ℕ) → get_or w' i 0 < 256) (c : Copied s at (p - at) w w' 0) where
   pub given : Givable s at w → Ends s at p → Given s at w w' (p - at)
   unfolding laid
   given G d t h =
@@ -100,7 +81,7 @@ module _ (s w w' : List ℕ) (at p : ℕ) (small_s : (i : ℕ) → get_or s i 0 
       let y : p ≡ at + ty_size G.0 = d G.0 G.1 in
       let l = G.2 in (
         omega arith,
-        whole w' small' t (holds_copied s at (p - at) w w' 0 t c (omega arith) (omega arith) h)
+        whole w' small t (holds_copied s at (p - at) w w' 0 t c (omega arith) (omega arith) h)
             ∙ ap (λ (m : List ℕ). ty_bytes t ++ m) (same_drop w' w (ty_size t) c.kept.long (λ i g. c.kept.high i (omega arith)))
             ∙ ap (λ (n : ℕ). ty_bytes t ++ drop n w) (sym (bytes_length t)),
       )

@@ -2,10 +2,12 @@
 use mathlib.Core.Path.{◌≡◌, refl, ap, sym, ◌∙◌}
 use mathlib.Core.List.{List}
 use mathlib.Core.Logic.{inl, inr}
-use Prim.Native.Nat.{ℕ, ◌<◌, ◌≤◌}
+use Prim.Native.Nat.{ℕ, ◌+◌, ◌<◌, ◌≤◌}
 use native.Mathlib.Omega.{arith}
 use lib.ListN.{get_or}
 use Rattle.std.specs.Prelude.{Result, Err}
+use denote.Enum.Declared.{tag_of}
+use Rattle.codes.specs.contracts.TypeCode.{the_type}
 use Rattle.codes.specs.declared.NoSuchCode.{NoSuchCode}
 use Rattle.codes.specs.declared.TypeCode.{TypeCode}
 use Rattle.codes.specs.declared.TypeCode.TheVariants.{Unit, Int, Lock, Ref, Function}
@@ -25,6 +27,14 @@ pub is_code : (s : List ℕ) (i : ℕ) {r : Result TypeCode NoSuchCode} {e : NoS
 is_code s i h d f =
     let w = within s i h.0 h.1 in
     elim (rw f at d) [ inl l ↦ omega arith | inr l ↦ omega arith ]
+
+-- what `as u8` gives
+pub byte_is : (k : TypeCode) → tag_of the_type k + 32 ≡ type_byte k
+byte_is Unit = refl
+byte_is Int = refl
+byte_is Lock = refl
+byte_is Ref = refl
+byte_is Function = refl
 
 -- a code and its byte
 pub byte_of : {b : ℕ} {k c : TypeCode} → type_byte k ≡ b → k ≡ c → b ≡ type_byte c

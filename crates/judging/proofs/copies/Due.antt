@@ -16,6 +16,10 @@ Due s p zero e = (u : Ty) × Holds s p u × (e ≡ p + ty_size u)
 Due s p (suc k) e = (u : Ty) × Holds s p u × Due s (p + ty_size u + 4) k e
 
 module _ (s : List ℕ) (p e : ℕ) where
+  due_some : (k : ℕ) → Due s p k e → Some s p
+  due_some zero d = (d.0, d.1)
+  due_some (suc k) d = (d.0, d.1)
+
   due_here : (k : ℕ) → Due s p k e → p < length s
   due_here zero d = held s p d.0 d.1
   due_here (suc k) d = held s p d.0 d.1
@@ -62,6 +66,9 @@ pub left_all : (s : List ℕ) (at : ℕ) → Left s at at 0
 left_all s at = record { ends = λ t h. (t, h, refl) }
 
 module _ {s : List ℕ} {at p k : ℕ} (l : Left s at p k) where
+  pub left_some : Some s at → Some s p
+  left_some h = due_some s p _ k (l.ends h.0 h.1)
+
   pub left_here : Some s at → p < length s
   left_here h = due_here s p _ k (l.ends h.0 h.1)
 

@@ -3,13 +3,15 @@ use mathlib.Core.Path.{◌≡◌, refl, ap, ◌∙◌}
 use mathlib.Core.List.{List, ◌++◌}
 use Prim.Native.Nat.{ℕ, ◌+◌, ◌-◌, ◌≤◌, ◌<◌}
 use native.Mathlib.Omega.{arith}
-use native.Mathlib.Nat.{add-zero}
-use native.Mathlib.Decide.{ℕ_discrete}
 use borrow.Rule.Slice.PartMut.{put_mid}
 use lib.ListN.{length, get_or, set, take, drop, length-set, length-append, length-drop, get_or-append}
-use lib.Seq.{get_or-set_same, get_or-set_other, get_or-append-add, get_or-take, get_or-drop, length-take-le}
+use lib.Seq.{get_or-set_same, get_or-append-add, get_or-take, get_or-drop, length-take-le}
 use Rattle.paper.specs.Types.{Ty, unit, int, lock, ref, fun, ty_size}
 use Rattle.types.specs.Holds.{Holds, Byte, Four}
+use Rattle.codes.specs.declared.TypeCode.{TypeCode}
+use Rattle.codes.specs.declared.TypeCode.TheVariants.{Lock, Ref, Function}
+use Rattle.codes.specs.Codes.{type_byte}
+use Rattle.judging.proofs.copies.Codes.{is_leaf}
 use Rattle.judging.proofs.Held.{held, holds_end, by_lock, by_leaf, kept_wider, kept_set}
 use Rattle.judging.specs.Copies.{Copied, Movable, Moved, Some, Ends}
 
@@ -83,25 +85,6 @@ holds_moved s i s' j t f l h = go t i j f l h
 pub holds_copied : (s : List ℕ) (from n : ℕ) (w w' : List ℕ) (to : ℕ) (t : Ty) → Copied s from n w w' to → to + n ≤ length w → ty_size t ≤ n → Holds s from t → Holds w' to t
 holds_copied s from n w w' to t c l z h = holds_moved s from w' to t (λ k g. c.same k (omega arith)) (omega (arith, c.kept.long)) h
 
--- the first byte by itself, and then the others
-pub code_first : (s w w' : List ℕ) (at n b : ℕ) → Copied s (at + 1) (n - 1) (set w 0 b) w' 1 → b ≡ get_or s at 0 → 1 ≤ n → n ≤ length w → Copied s at n w w' 0
-code_first s w w' at n b c e h l =
-    record {
-      kept = record {
-        long = c.kept.long ∙ length-set w 0 b;
-        low = λ i l. absurd (omega arith);
-        high = λ i l. c.kept.high i (omega arith) ∙ get_or-set_other w 0 i b 0 (λ z. omega arith);
-      };
-      same = λ j k. go j k (ℕ_discrete j 0);
-    }
-  where
-    go : (j : ℕ) → j < n → Dec (j ≡ 0) → get_or w' (0 + j) 0 ≡ get_or s (at + j) 0
-    go j k (yes z) = rw (z, add-zero at) (c.kept.low 0 (omega arith) ∙ get_or-set_same w 0 b 0 (omega arith) ∙ e)
-    go j k (no z) =
-        let x : 0 + j ≡ 1 + (j - 1) = omega arith in
-        let y : at + j ≡ at + 1 + (j - 1) = omega arith in
-        rw (x, y) (c.same (j - 1) (omega arith))
-
 -- ---- a type moved within its buffer
 
 -- Unit and Int are their code
@@ -144,3 +127,6 @@ module _ (s : List ℕ) (at : ℕ) where
   pub end_lock : get_or s at 0 ≡ 34 → Ends s at (at + 2)
   unfolding ty_size
   end_lock e t h = by_lock (λ t. at + 2 ≡ at + ty_size t) s at t h e (λ a b. refl)
+
+  pub end_plain : (k : TypeCode) → type_byte k ≡ get_or s at 0 → (k ≡ Lock → ⊥) → (k ≡ Ref → ⊥) → (k ≡ Function → ⊥) → Ends s at (at + 1)
+  end_plain k d l r f = let z = is_leaf k d l r f in end_leaf (λ e. omega arith) (λ e. omega arith) (λ e. omega arith)

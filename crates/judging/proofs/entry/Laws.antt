@@ -35,6 +35,7 @@ use Rattle.judging.specs.Entry.{Judges, Answers, accepts, refuses, Comes}
 use Rattle.judging.proofs.Held.{kept_refl}
 use Rattle.judging.proofs.copies.Bytes.{same_drop}
 use Rattle.judging.proofs.Agree.{drawn, judge_is}
+use Rattle.judging.proofs.Inversion.{apart}
 
 -- ---- the reading
 
@@ -60,7 +61,7 @@ module _ (s : List ℕ) where
   image_exp e j h = go (untrue s) (known (at s 2)) refl (read_exp (at s 2) 64 s 0 0 3) refl h
     where
       never : {P : Type 0} {k p : ℕ} → ◌≡◌ {A = Read Exp} (wrong k p) (got e j) → P
-      never q = let z : ◌≡◌ {A = ℕ} 0 1 = cc in absurd (omega arith)
+      never q = apart cc
 
       inner : (b : Bool) (x : Exp) (i : ℕ) → choose b (λ _. got x i) (λ _. wrong 6 i) ≡ got e j → got x i ≡ got e j
       inner true x i q = q
@@ -80,19 +81,19 @@ module _ (s : List ℕ) where
       let a : e' ≡ e = cc in
       let b : i ≡ j = cc in
       ap (λ (z : Placed.Exp). got z i) (q ∙ ap (place 3) a) ∙ ap (got (place 3 e)) b
-  placed e j r r' neither h = let z : ◌≡◌ {A = ℕ} 0 1 = cc in absurd (omega arith)
+  placed e j r r' neither h = apart cc
 
   was : (r : Read Exp) → read_image s ≡ r → (g : Result ℕ Refusal) → said g ≡ told r → {p : ℕ} → g ≡ Ok p → Was s
   unfolding told
   was (got e j) h g f k = record { e = e; next = j; is = h; reads = placed e j (exp_at 64 0 0 s 3) (read_exp 1 64 s 0 0 3) (exp_alike s 64 0 0 3) (image_exp e j h) }
-  was (wrong n m) h g f {p} k = let y : ◌≡◌ {A = Out ℕ} (ok p) (refused n m) = ap said (sym k) ∙ f in let z : ◌≡◌ {A = ℕ} 0 1 = cc in absurd (omega arith)
+  was (wrong n m) h g f {p} k = let y : ◌≡◌ {A = Out ℕ} (ok p) (refused n m) = ap said (sym k) ∙ f in apart cc
 
   pub read_was : (g : Result ℕ Refusal) → said g ≡ told (read_image s) → {p : ℕ} → g ≡ Ok p → Was s
   read_was g f k = was (read_image s) refl g f k
 
   refused_by : (r : Read Exp) (g : Result ℕ Refusal) → said g ≡ told r → {e : Refusal} → g ≡ Err e → of_read r ≡ refused (number e) (place_at e)
   unfolding told
-  refused_by (got x j) g f {e} h = let y : ◌≡◌ {A = Out ℕ} (refused (number e) (place_at e)) (ok j) = ap said (sym h) ∙ f in let z : ◌≡◌ {A = ℕ} 0 1 = cc in absurd (omega arith)
+  refused_by (got x j) g f {e} h = let y : ◌≡◌ {A = Out ℕ} (refused (number e) (place_at e)) (ok j) = ap said (sym h) ∙ f in apart cc
   refused_by (wrong n m) g f {e} h =
       let y : ◌≡◌ {A = Out ℕ} (refused (number e) (place_at e)) (refused n m) = ap said (sym h) ∙ f in
       let a : n ≡ number e = cc in
@@ -126,7 +127,7 @@ module _ (s t w w' : List ℕ) (W : Was s) (long : 40960 ≤ length w) where
 
     stop : (o : Out Typed) → Gives w' 64 0 W.next (drawn o) r → {e : Refusal} → r ≡ Err e → Answers t t (Err e) (of_typing o)
     unfolding drawn
-    stop (ok x) h f = let a = h.0 in let z : ◌≡◌ {A = ℕ} 0 1 = cc in absurd (omega arith)
+    stop (ok x) h f = let a = h.0 in apart cc
     stop (refused n q) h {e} f =
         let g : ◌≡◌ {A = Out code.Typed} (refused (number e) (place_at e)) (refused n q) = ap said (sym f) ∙ h in
         let a : number e ≡ n = cc in

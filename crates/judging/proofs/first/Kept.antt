@@ -127,6 +127,9 @@ module _ {img w : List ℕ} {at n left : ℕ} (O : Some1 img w at n left) where
       let z = W.more in
       (omega arith, omega (arith, O.2.deep), W.inn, O.2.room, O.2.few)
 
+  pub more_left : 1 ≤ left
+  more_left = facts.0
+
   pub part_movable : Movable w (slot (left - 1)) (slot left)
   part_movable = let F = facts in slot_movable w left (n + locks1 (get_or img at 0)) O.3 F.3 F.0 F.1 O.4
 

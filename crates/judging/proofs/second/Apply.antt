@@ -27,16 +27,17 @@ use Rattle.judging.specs.Work.{slot, InSlot}
 use Rattle.judging.specs.Contract.{Out, Second, Some2, place2, Kept1}
 use Rattle.judging.proofs.Cases.{code_num, by_app}
 use Rattle.judging.proofs.second.Plain.{facts, coded}
+use Rattle.judging.proofs.Inversion.{apart}
 
 data IsFun : Ty → Type 0 where
   is_fun : (a : Ty) (s : ℕ) (y : Ty) → IsFun (fun a s y)
 
 fun_of : (p : ℕ) (t : Ty) (i : ℕ) (k : Ty) (m : ℕ) → as_fun p t (λ x s y. typed t i) ≡ typed k m → IsFun k
 unfolding as_fun
-fun_of p unit i k m h = let z : ◌≡◌ {A = ℕ} 0 1 = cc in absurd (omega arith)
-fun_of p int i k m h = let z : ◌≡◌ {A = ℕ} 0 1 = cc in absurd (omega arith)
-fun_of p (lock a) i k m h = let z : ◌≡◌ {A = ℕ} 0 1 = cc in absurd (omega arith)
-fun_of p (ref a t) i k m h = let z : ◌≡◌ {A = ℕ} 0 1 = cc in absurd (omega arith)
+fun_of p unit i k m h = apart cc
+fun_of p int i k m h = apart cc
+fun_of p (lock a) i k m h = apart cc
+fun_of p (ref a t) i k m h = apart cc
 fun_of p (fun a s y) i k m h = let z : fun a s y ≡ k = cc in subst IsFun z (is_fun a s y)
 
 kept_fun : (x : Exp) (k : Ty) (m : ℕ) → code_num x ≡ 5 → Kept1 x k m → IsFun k

@@ -23,17 +23,18 @@ use Rattle.judging.specs.Contract.{Out, Given, Second, Some2, place2, Kept1}
 use Rattle.judging.proofs.Buffer.{slot_moved, slot_movable}
 use Rattle.judging.proofs.Cases.{code_num, by_sync, by_add}
 use Rattle.judging.proofs.Node.{read_whole}
+use Rattle.judging.proofs.Inversion.{apart}
 
 data IsLock : Ty → Type 0 where
   is_lock : (k : ℕ) → IsLock (lock k)
 
 lock_of : (p : ℕ) (t : Ty) (i : ℕ) (k : Ty) (m : ℕ) → as_lock p t (λ j. typed t i) ≡ typed k m → IsLock k
 unfolding as_lock
-lock_of p unit i k m h = let z : ◌≡◌ {A = ℕ} 0 1 = cc in absurd (omega arith)
-lock_of p int i k m h = let z : ◌≡◌ {A = ℕ} 0 1 = cc in absurd (omega arith)
+lock_of p unit i k m h = apart cc
+lock_of p int i k m h = apart cc
 lock_of p (lock a) i k m h = let z : lock a ≡ k = cc in subst IsLock z (is_lock a)
-lock_of p (ref a t) i k m h = let z : ◌≡◌ {A = ℕ} 0 1 = cc in absurd (omega arith)
-lock_of p (fun a s y) i k m h = let z : ◌≡◌ {A = ℕ} 0 1 = cc in absurd (omega arith)
+lock_of p (ref a t) i k m h = apart cc
+lock_of p (fun a s y) i k m h = apart cc
 
 kept_lock : (x : Exp) (k : Ty) (m : ℕ) → code_num x ≡ 11 → Kept1 x k m → IsLock k
 unfolding after1
@@ -60,6 +61,9 @@ module _ {img w : List ℕ} {at n left : ℕ} (O : Some2 img w at n left) where
       let W = read_whole left O.0 n img at O.1 O.2.next O.2.reads in
       let z = W.more in
       (omega arith, omega (arith, O.2.deep), W.inn, O.2.room, O.2.few)
+
+  pub more_left : 1 ≤ left
+  more_left = facts.0
 
   pub part_movable : Movable w (slot (left - 1)) (slot left)
   part_movable = let F = facts in slot_movable w left n O.5 F.3 F.0 F.1 O.6

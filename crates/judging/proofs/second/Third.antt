@@ -34,6 +34,9 @@ module _ {img w : List ℕ} {at n left : ℕ} (O : Some3 img w at n left) where
       let z = W.more in
       (omega arith, omega (arith, O.2.deep), W.inn, O.2.room)
 
+  pub more_left : 1 ≤ left
+  more_left = facts.0
+
   -- by the stated type
   by_cond : (v : ℕ) (x : Exp) (P : Exp → Type 0) → Given img w at v n left x → ((t : Ty) (a c d : Exp) (p : ℕ) → Holds img (at + 1) t → Within n t → ty_size t ≤ 256 → P (e.if_not0 p t a c d)) → P x
   by_cond v x P G f =

@@ -23,17 +23,18 @@ use Rattle.judging.specs.Work.{slot, InSlot}
 use Rattle.judging.specs.Contract.{Out, Given, Second, Some2, place2, Kept1}
 use Rattle.judging.proofs.Cases.{code_num, by_write}
 use Rattle.judging.proofs.second.Plain.{facts, coded}
+use Rattle.judging.proofs.Inversion.{apart}
 
 data IsRef : Ty → Type 0 where
   is_ref : (k : ℕ) (t : Ty) → IsRef (ref k t)
 
 ref_of : (p : ℕ) (t : Ty) (i : ℕ) (k : Ty) (m : ℕ) → as_ref p t (λ j c. typed t i) ≡ typed k m → IsRef k
 unfolding as_ref
-ref_of p unit i k m h = let z : ◌≡◌ {A = ℕ} 0 1 = cc in absurd (omega arith)
-ref_of p int i k m h = let z : ◌≡◌ {A = ℕ} 0 1 = cc in absurd (omega arith)
-ref_of p (lock a) i k m h = let z : ◌≡◌ {A = ℕ} 0 1 = cc in absurd (omega arith)
+ref_of p unit i k m h = apart cc
+ref_of p int i k m h = apart cc
+ref_of p (lock a) i k m h = apart cc
 ref_of p (ref a t) i k m h = let z : ref a t ≡ k = cc in subst IsRef z (is_ref a t)
-ref_of p (fun a s y) i k m h = let z : ◌≡◌ {A = ℕ} 0 1 = cc in absurd (omega arith)
+ref_of p (fun a s y) i k m h = apart cc
 
 kept_ref : (x : Exp) (k : Ty) (m : ℕ) → code_num x ≡ 8 → Kept1 x k m → IsRef k
 unfolding after1

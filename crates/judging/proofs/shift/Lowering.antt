@@ -18,6 +18,7 @@ use Rattle.judging.specs.Holds.{put}
 use Rattle.judging.proofs.Held.{held, by_lock, by_ref, by_fun, by_leaf, holds_below, holds_above, four_below, four_above, byte_below, kept_wider, kept_then, kept_refl, kept_set, kept_put, four_put}
 use Rattle.std.specs.Prelude.{Option, Some, None}
 use Rattle.judging.specs.Shift.{Within, Lowerable, low, Lowered, Lowers}
+use Rattle.judging.proofs.Inversion.{apart}
 
 pub lower_size : (t : Ty) → ty_size (lower t) ≡ ty_size t
 unfolding ty_size lower
@@ -33,10 +34,10 @@ or_true false = refl
 
 pub low_mentions : (p : ℕ) (b : Bool) → None ≡ low p b → b ≡ true
 low_mentions p true e = refl
-low_mentions p false e = let z : ◌≡◌ {A = ℕ} 0 1 = cc in absurd (omega arith)
+low_mentions p false e = apart cc
 
 pub low_next : (q p : ℕ) (b : Bool) → Some p ≡ low q b → (b ≡ false) × (p ≡ q)
-low_next q p true e = let z : ◌≡◌ {A = ℕ} 0 1 = cc in absurd (omega arith)
+low_next q p true e = apart cc
 low_next q p false e = (refl, cc)
 
 pub even_odd : (m : ℕ) → (m % 2 ≡ 1 → ⊥) → m % 2 ≡ 0

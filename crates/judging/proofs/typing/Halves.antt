@@ -4,7 +4,7 @@ use mathlib.Core.List.{List}
 use mathlib.Core.Logic.{◌⊎◌, inl, inr}
 use Prim.Native.Nat.{ℕ, ◌+◌, ◌-◌, ◌<◌, ◌≤◌}
 use native.Mathlib.Omega.{arith}
-use native.Mathlib.Nat.{add-zero, pos_of_ne-zero}
+use native.Mathlib.Nat.{add-zero}
 use lib.Bits.{bit_or, or_lt}
 use lib.ListN.{get_or}
 use Rattle.paper.specs.Sets.{union}
@@ -30,7 +30,7 @@ use Rattle.judging.proofs.Buffer.{env_same, slot_moved, slot_movable, frame_then
 use Rattle.judging.proofs.binding.Env.{binds1_other, locks1_other, bind_other}
 use Rattle.judging.proofs.binding.Start.{Own, start_other}
 use Rattle.judging.proofs.typing.Parts.{binds2_le, refused_next, typed_then}
-use Rattle.judging.proofs.typing.One.{finds, some_left}
+use Rattle.judging.proofs.typing.One.{finds, some_left, left_over}
 
 -- a let or a then
 abbrev pub Chained : ℕ → Type 0
@@ -180,7 +180,7 @@ module _ {img w : List ℕ} {at v n left : ℕ} (S : Ready img w at v n left) (c
 
             pub chain_movable : (1 ≤ left) × (left ≤ 64) × Movable w4 (slot (left - 1)) (slot left)
             chain_movable =
-                let d = pos_of_ne-zero (some_left S) in
+                let d = left_over S in
                 (d, omega (arith, S.deep), slot_movable w4 left n (gave_2 S).type (omega (arith, S.room, frame_4.long)) d (omega (arith, S.deep)) (gave_2 S).slotted)
 
             pub chain_done : {w5 : List ℕ} {r : Typed} → Goes w4 w5 left a.need b.need b.end r → Finds img w w5 at v n left (Ok r)

@@ -3,6 +3,7 @@
 use mathlib.Core.Path.{◌≡◌, refl, sym, ◌∙◌, subst}
 use mathlib.Core.List.{List}
 use Prim.Native.Nat.{ℕ, ◌+◌, ◌-◌, ◌*◌, ◌^◌, ◌<◌}
+use native.Mathlib.Nat.{pos_of_ne-zero}
 use native.Mathlib.Omega.{arith}
 use lib.ListN.{length, get_or}
 use Rattle.paper.specs.Types.{Ty}
@@ -24,8 +25,13 @@ use Rattle.judging.proofs.Node.{count, read_whole}
 use Rattle.judging.proofs.Buffer.{frame_then, frame_part, frame_env, frame_slot, out_refused, Gave, out_typed}
 use Rattle.judging.proofs.typing.Parts.{parts_some, binds1_le, head, rest1, walk_1, next_typed, refused_next, typed_then, Then1, part_1, place_of_lem, place1_head, one_more, one_rest}
 
-pub less_left : (left t : ℕ) → 2 * left ≡ t → (left ≡ 0 → ⊥) → 2 * (left - 1) + 1 < t
-less_left left t e z = omega arith
+-- ---- the call of a part, which stands under v variables and n locks, with d of the nesting left
+module _ {img w : List ℕ} {p v n d v1 n1 d1 : ℕ} (U : (v1 ≡ v) × (n1 ≡ n) × (d1 ≡ d)) where
+  pub part_ready : Ready img w p v n d → Ready img w p v1 n1 d1
+  part_ready R = rw (U.0, U.1, U.2) R
+
+  pub part_finds : {w' : List ℕ} {r : Answer} → Finds img w w' p v1 n1 d1 r → Finds img w w' p v n d r
+  part_finds F = rw (U.0, U.1, U.2) at F
 
 module _ {img w : List ℕ} {at v n left : ℕ} where
   pub inside : Ready img w at v n left → at < length img
@@ -33,6 +39,13 @@ module _ {img w : List ℕ} {at v n left : ℕ} where
 
   pub some_left : Ready img w at v n left → left ≡ 0 → ⊥
   some_left R = (read_whole left v n img at R.x R.next R.reads).more
+
+  pub left_over : Ready img w at v n left → 0 < left
+  left_over R = pos_of_ne-zero (some_left R)
+
+  -- a part has less left
+  pub falls : {d t : ℕ} → Ready img w at v n left → 2 * left ≡ t → d ≡ left - 1 → 2 * d + 1 < t
+  falls R l e = let z = some_left R in omega arith
 
   -- what is found is found for every reading
   pub finds : {w' : List ℕ} {r : Answer} → Ready img w at v n left → Frame w w' v left

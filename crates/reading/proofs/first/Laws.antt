@@ -9,15 +9,19 @@ use native.Mathlib.Decide.{ℕ_discrete}
 use lib.ListN.{length, get_or}
 use lib.Dec.{leb, ltb, eqb, lit<}
 use borrow.Author.Tests.{le-ltb, lt-ltb, ne_eqb, ltb-true}
+use Rattle.paper.specs.Base.{choose}
 use Rattle.paper.specs.Reading.{got, wrong}
-use Rattle.std.specs.Prelude.{◌⊎◌}
+use Rattle.std.specs.Prelude.{◌⊎◌, Ok, Err}
 use Rattle.std.proofs.Common.{inl, inr}
+use Rattle.answers.specs.declared.Refusal.TheVariants.{CutImage, UnboundVariable}
+use Rattle.answers.specs.Said.{said}
 use Rattle.codes.specs.declared.ExpCode.{ExpCode}
 use Rattle.codes.specs.declared.ExpCode.TheVariants as code
 use Rattle.codes.specs.Codes.{exp_byte}
 use Rattle.types.specs.Stated.{◌then◌, pick, name_at, set_at, stated_at}
 use Rattle.paper.specs.Verdict.{Out, ok, refused}
 use Rattle.types.specs.Told.{told, on}
+use Rattle.types.specs.Contract.{byte_below}
 use Rattle.types.proofs.stated.Laws.{told_then, told_as}
 use Rattle.reading.specs.Placed.{Exp, lam, app, cell, write, sync, let_in, seq, add, if_not0}
 use Rattle.reading.specs.First.{other, code_of, code_at, num_at, var_at, exp_as, exp_at, too_deep}
@@ -75,17 +79,16 @@ module _ (s : List ℕ) (at : ℕ) where
     unfolding told num_at
     num_in k = simp (← h, k)
 
-  pub var_short : (v : ℕ) → length s ≤ at → refused 5 (length s) ≡ told (var_at v s at)
+  pub var_below : (v : ℕ) → said (byte_below s at v (UnboundVariable at)) ≡ told (var_at v s at)
   unfolding told var_at
-  var_short v h = simp (le-ltb _ _ h)
-
-  pub var_in : (v : ℕ) → at < length s → get_or s at 0 < v → ok (at + 1) ≡ told (var_at v s at)
-  unfolding told var_at
-  var_in v h k = simp (lt-ltb _ _ h, lt-ltb _ _ k)
-
-  pub var_out : (v : ℕ) → at < length s → v ≤ get_or s at 0 → refused 8 at ≡ told (var_at v s at)
-  unfolding told var_at
-  var_out v h k = simp (lt-ltb _ _ h, le-ltb _ _ k)
+  var_below v = go (ltb at (length s)) (ltb (get_or s at 0) v)
+    where
+      go : (x y : Bool)
+          → said (choose x (λ _. choose y (λ _. Ok (at + 1)) (λ _. Err (UnboundVariable at))) (λ _. Err (CutImage (length s))))
+          ≡ told (pick x (pick y (got (get_or s at 0) (at + 1)) (wrong 8 at)) (wrong 5 (length s)))
+      go true true = refl
+      go true false = refl
+      go false y = refl
 
 -- ---- what is told of an expression with a code: that of its fields and parts in turn, and of the last as of the whole
 module _ (d v n : ℕ) (s : List ℕ) (at : ℕ) where

@@ -3,7 +3,6 @@ use mathlib.Core.Path.{◌≡◌, refl, ap, sym, ◌∙◌}
 use mathlib.Core.List.{List}
 use Prim.Native.Nat.{ℕ, ◌-◌, ◌≤◌, ◌<◌, ◌+◌}
 use native.Mathlib.Omega.{arith}
-use lib.Dec.{lit≤}
 use lib.ListN.{length, get_or}
 use Rattle.std.specs.Prelude.{◌⊎◌, Result, Ok, Err}
 use Rattle.std.proofs.Common.{inl, inr}
@@ -15,7 +14,7 @@ use Rattle.answers.specs.Numbers.{number, place}
 use Rattle.answers.specs.Said.{said}
 use Rattle.codes.specs.declared.ExpCode.{ExpCode}
 use Rattle.codes.specs.declared.ExpCode.TheVariants as code
-use Rattle.codes.specs.Codes.{exp_byte}
+use Rattle.codes.specs.Codes.{exp_byte, exp_in}
 use Rattle.types.specs.Told.{told, on}
 use Rattle.types.proofs.stated.Laws.{on_refused, on_next}
 use Rattle.types.proofs.stated.Agree.{name_is, set_is, stated_is}
@@ -38,23 +37,6 @@ abbrev left_of : Result Lead Refusal → ℕ
 left_of (Err e) = 0
 left_of (Ok (Whole p)) = 0
 left_of (Ok (Last p w)) = w.left
-
-in_codes : (b : ExpCode) → (1 ≤ exp_byte b) × (exp_byte b ≤ 15)
-in_codes code.Unit = (lit≤ tt, lit≤ tt)
-in_codes code.Number = (lit≤ tt, lit≤ tt)
-in_codes code.Variable = (lit≤ tt, lit≤ tt)
-in_codes code.Function = (lit≤ tt, lit≤ tt)
-in_codes code.Apply = (lit≤ tt, lit≤ tt)
-in_codes code.NewCell = (lit≤ tt, lit≤ tt)
-in_codes code.Read = (lit≤ tt, lit≤ tt)
-in_codes code.Write = (lit≤ tt, lit≤ tt)
-in_codes code.Fork = (lit≤ tt, lit≤ tt)
-in_codes code.NewLock = (lit≤ tt, lit≤ tt)
-in_codes code.Section = (lit≤ tt, lit≤ tt)
-in_codes code.Let = (lit≤ tt, lit≤ tt)
-in_codes code.Then = (lit≤ tt, lit≤ tt)
-in_codes code.Add = (lit≤ tt, lit≤ tt)
-in_codes code.If = (lit≤ tt, lit≤ tt)
 
 -- the code c stands at i, and some of the nesting is left
 pub record Due (s : List ℕ) (i c : ℕ) (u : Scope) : Type 0 where
@@ -119,7 +101,7 @@ module _ (s : List ℕ) (i : ℕ) (u : Scope) where
     led_other (inr k) = wrong_told (exp_high _ _ s i h _ k)
 
     pub led_deep : (b : ExpCode) → exp_byte b ≡ get_or s i 0 → u.left ≡ 0 → Led s i u (Err (OverLimit i))
-    led_deep b k e = let f = in_codes b in wrong_told (exp_deep _ _ s i h _ e (λ z. omega arith) (omega arith))
+    led_deep b k e = let f = exp_in b in wrong_told (exp_deep _ _ s i h _ e (λ z. omega arith) (omega arith))
 
     pub due_at : (b : ExpCode) → exp_byte b ≡ get_or s i 0 → (u.left ≡ 0 → ⊥) → Due s i (exp_byte b) u
     due_at b k z = record { inside = h; code = sym k; deep = omega arith }

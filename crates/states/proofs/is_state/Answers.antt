@@ -1,12 +1,7 @@
 use native.Mathlib.Omega.{arith}
-use Rattle.laws.specs.Cards.{sixteen_fits}
 use Rattle.paper.specs.States.{sixteen}
 use Rattle.states.specs.IsState.{tests_say}
 use Rattle.states.proofs.is_state.Goals as goal
-
-pub invariant_of-is_state_of : goal.invariant_of-is_state_of
-unfolding sixteen
-invariant_of-is_state_of c = record { fits = sixteen_fits }
 
 pub returns : goal.returns
 unfolding sixteen

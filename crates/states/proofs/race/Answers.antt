@@ -1,7 +1,5 @@
 -- The ways of `RaceIs`.
 use Rattle.std.proofs.lemmas.Result.{err_from_is_err_and}
-use Rattle.laws.specs.Cards.{sixteen_fits}
-use Rattle.paper.specs.States.{sixteen}
 use Rattle.states.specs.RaceIs.{raced_unfit, threads_in, raced_pair}
 use Rattle.states.proofs.race.Goals as goal
 
@@ -15,7 +13,3 @@ first_pair-requires c = threads_in c.args.state.now c.in_ok-check_state.ensures 
 
 pub returns : goal.returns
 returns c = raced_pair c.args.state.now c.in_ok-check_state.ensures c.byte_at.ensures c.first_pair.ensures
-
-pub invariant_of-first_pair : goal.invariant_of-first_pair
-unfolding sixteen
-invariant_of-first_pair c = record { fits = sixteen_fits }

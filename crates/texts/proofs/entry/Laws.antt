@@ -3,7 +3,7 @@
 use mathlib.Core.Path.{◌≡◌, refl, ap, ◌∙◌}
 use mathlib.Core.List.{List}
 use Prim.Native.Nat.{ℕ, ◌≤◌}
-use Rattle.std.specs.Prelude.{Result, Ok, Err}
+use Rattle.std.specs.Prelude.{Result, Ok, Err, Option, Some, IsSome}
 use native.Mathlib.Omega.{arith}
 use lib.ListN.{length, take, drop}
 use lib.Seq.{take_at}
@@ -18,14 +18,19 @@ use Rattle.laws.specs.Sizes.{verdict_small}
 use Rattle.answers.specs.declared.Refusal.{Refusal}
 use Rattle.answers.specs.Numbers.{number, place}
 use Rattle.judging.specs.Entry.{Judges}
-use Rattle.writing.specs.Written.{Written as Filled}
+use Rattle.writing.specs.Written.{Written}
 use Rattle.texts.specs.Lines.{accept_line, refuse_line, accept_line_lem, refuse_line_lem}
-use Rattle.texts.specs.JudgeText.{JudgeTexts, text_written}
+use Rattle.texts.specs.JudgeText.{JudgeTexts, text_room, text_written}
 
 -- the n bytes of a type stand first in the type buffer, and the image's line is theirs
 pub record Accepts (image types : List ℕ) (n : ℕ) : Type 0 where
   pub inside : n ≤ length types
   pub line : judge_text image ≡ accept_line (take n types)
+
+-- the line has been written, and there was room for it
+pub record Line (image work out work' out' : List ℕ) (r : Option ℕ) : Type 0 where
+  pub some : IsSome r
+  pub shown : {end : ℕ} → r ≡ Some end → JudgeTexts image work out (Ok end) work' out'
 
 module _ (image types work types' : List ℕ) (type_room : 256 ≤ length types) (work_room : 40960 ≤ length work) where
   call_ok : (t : Ty) → verdict image ≡ ok t → judge_call image types work ≡ record { says = ok (ty_size t); types = laid (ty_bytes t) types; work = zeroed work }
@@ -75,14 +80,14 @@ module _ {image types work types' work' : List ℕ} (type_room : 256 ≤ length 
 
   -- ---- the line of each answer
 
-  module _ {out out' : List ℕ} {end : ℕ} (out_room : 520 ≤ length out) where
-    by_line : {r : Result ℕ Refusal} {b : List ℕ} → Judges image types work r types' work' → judge_text image ≡ b → Filled b out out' end
-        → JudgeTexts image work out (Ok end) work' out'
-    by_line j e w = text_written image work out work_room out_room (clears j) (rw e w)
+  module _ {out out' : List ℕ} {o : Option ℕ} (out_room : 520 ≤ length out) where
+    by_line : {r : Result ℕ Refusal} {b : List ℕ} → Judges image types work r types' work' → judge_text image ≡ b → Written b out out' o → Line image work out work' out' o
+    by_line j e w =
+        let z : Written (judge_text image) out out' o = rw e w in
+        record { some = text_room image work out out_room z; shown = text_written image work out work_room out_room (clears j) z }
 
-    pub accepted : {n : ℕ} → Judges image types work (Ok n) types' work' → Filled (accept_line (take n types')) out out' end → JudgeTexts image work out (Ok end) work' out'
+    pub accepted : {n : ℕ} → Judges image types work (Ok n) types' work' → Written (accept_line (take n types')) out out' o → Line image work out work' out' o
     accepted j w = by_line j (accepts j).line w
 
-    pub denied : (e : Refusal) → Judges image types work (Err e) types' work' → Filled (refuse_line (number e) (place e)) out out' end
-        → JudgeTexts image work out (Ok end) work' out'
+    pub denied : (e : Refusal) → Judges image types work (Err e) types' work' → Written (refuse_line (number e) (place e)) out out' o → Line image work out work' out' o
     denied e j w = by_line j (refuses e j) w

@@ -12,24 +12,27 @@ use lib.Dec.{leb, ltb, eqb, lit≤}
 use lib.ListN.{length, get_or}
 use borrow.Author.Tests.{le-ltb, lt-ltb, le-leb, lt-leb, ne_eqb}
 use Rattle.paper.specs.Verdict.{Out, ok, refused}
-use Rattle.paper.specs.Base.{word32}
+use Rattle.paper.specs.Base.{choose, word32}
 use Rattle.paper.specs.Types.{Ty, lock, ref, fun}
 use Rattle.paper.specs.Reading.{Read, got, wrong}
-use Rattle.types.specs.Stated.{◌then◌, set_at, name_at, ty_at, stated_at, sized, ty_as, too_deep, tag_at, tag_of, Tag, other}
+use Rattle.types.specs.Stated.{◌then◌, pick, set_at, name_at, ty_at, stated_at, sized, ty_as, too_deep, tag_at, tag_of, Tag, other}
 use Rattle.types.specs.Told.{told, on}
+use Rattle.types.specs.Contract.{byte_below}
+use Rattle.std.specs.Prelude.{Ok, Err}
+use Rattle.answers.specs.Said.{said}
+use Rattle.answers.specs.declared.Refusal.TheVariants.{CutImage, UnboundName}
 
 module _ (n : ℕ) (s : List ℕ) (at : ℕ) where
-  pub name_ended : length s ≤ at → refused 5 (length s) ≡ told (name_at n s at)
+  pub name_below : said (byte_below s at n (UnboundName at)) ≡ told (name_at n s at)
   unfolding told name_at
-  name_ended h = simp (le-ltb _ _ h)
-
-  pub name_in : at < length s → get_or s at 0 < n → ok (at + 1) ≡ told (name_at n s at)
-  unfolding told name_at
-  name_in h k = simp (lt-ltb _ _ h, lt-ltb _ _ k)
-
-  pub name_out : at < length s → n ≤ get_or s at 0 → refused 9 at ≡ told (name_at n s at)
-  unfolding told name_at
-  name_out h k = simp (lt-ltb _ _ h, le-ltb _ _ k)
+  name_below = go (ltb at (length s)) (ltb (get_or s at 0) n)
+    where
+      go : (x y : Bool)
+          → said (choose x (λ _. choose y (λ _. Ok (at + 1)) (λ _. Err (UnboundName at))) (λ _. Err (CutImage (length s))))
+          ≡ told (pick x (pick y (got (get_or s at 0) (at + 1)) (wrong 9 at)) (wrong 5 (length s)))
+      go true true = refl
+      go true false = refl
+      go false y = refl
 
   -- x says whether four bytes stand there
   module _ {x : Bool} (h : x ≡ leb (at + 4) (length s)) where

@@ -3,7 +3,6 @@ use mathlib.Core.Path.{◌≡◌, refl, ap, sym, ◌∙◌}
 use mathlib.Core.List.{List}
 use Prim.Native.Nat.{ℕ, ◌+◌, ◌-◌, ◌≤◌, ◌<◌}
 use native.Mathlib.Omega.{arith}
-use lib.Dec.{lit≤}
 use lib.ListN.{length, get_or}
 use Rattle.std.specs.Prelude.{◌⊎◌, Result, Ok, Err}
 use Rattle.std.proofs.Common.{inl, inr}
@@ -14,7 +13,7 @@ use Rattle.answers.specs.Numbers.{number, place}
 use Rattle.answers.specs.Said.{said}
 use Rattle.codes.specs.declared.TypeCode.{TypeCode}
 use Rattle.codes.specs.declared.TypeCode.TheVariants as code
-use Rattle.codes.specs.Codes.{type_byte}
+use Rattle.codes.specs.Codes.{type_byte, type_in}
 use Rattle.types.specs.declared.stated.Lead.{Lead}
 use Rattle.types.specs.declared.stated.Lead.TheVariants.{Whole, Last}
 use Rattle.types.specs.Told.{told}
@@ -28,13 +27,6 @@ no_last f = let z : ◌≡◌ {A = ℕ} 0 1 = cc in absurd (omega arith)
 
 whole_last : {A : Type 0} {p q : ℕ} → ◌≡◌ {A = Result Lead Refusal} (Ok (Whole p)) (Ok (Last q)) → A
 whole_last f = let z : ◌≡◌ {A = ℕ} 0 1 = cc in absurd (omega arith)
-
-in_codes : (b : TypeCode) → (32 ≤ type_byte b) × (type_byte b ≤ 36)
-in_codes code.Unit = (lit≤ tt, lit≤ tt)
-in_codes code.Int = (lit≤ tt, lit≤ tt)
-in_codes code.Lock = (lit≤ tt, lit≤ tt)
-in_codes code.Ref = (lit≤ tt, lit≤ tt)
-in_codes code.Function = (lit≤ tt, lit≤ tt)
 
 module _ (s : List ℕ) (i n d : ℕ) where
   -- what is told of the whole, by tags
@@ -63,7 +55,7 @@ module _ (s : List ℕ) (i n d : ℕ) where
 
     -- a code b, which stands there
     pub lead_deep : (b : TypeCode) → type_byte b ≡ get_or s i 0 → d ≡ 0 → TypeLed s i n d (Err (OverLimit i))
-    lead_deep b k e = let f = in_codes b in led_wrong (ty_deep n s i h d e (rw k at f.0) (rw k at f.1))
+    lead_deep b k e = let f = type_in b in led_wrong (ty_deep n s i h d e (rw k at f.0) (rw k at f.1))
 
     module _ {b : TypeCode} (k : type_byte b ≡ get_or s i 0) where
       module _ (z : d ≡ 0 → ⊥) where

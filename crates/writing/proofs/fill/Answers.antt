@@ -14,8 +14,8 @@ returns-then-n-v c =
     let f = filling_copied v d from h c.min-n.result c.min-n.ensures c.copy_from_slice.ensures.after in
     cut_written d c.args.at from c.min-from.ensures v (filling_short v d from h c.min-n.result c.min-n.ensures f (omega arith) c.if-n-v.true)
 
-pub returns : goal.returns
-returns c =
+pub returns-else-n-v : goal.returns-else-n-v
+returns-else-n-v c =
     let v = c.args.v.now in
     let d = c.args.dst.now in
     let from = c.min-from.result in

@@ -2,13 +2,13 @@
 use mathlib.Core.Path.{◌∙◌}
 use native.Mathlib.Omega.{arith}
 use lib.ListN.{length-set}
-use Rattle.judging.proofs.first.Kept.{facts}
+use Rattle.judging.proofs.first.Kept.{facts, more_left}
 use Rattle.judging.proofs.first.Cell.{cell_room, cell_12, cell_10, cell_go}
 use Rattle.judging.proofs.Refused.{missing, a_value}
 use Rattle.judging.proofs.first.first_cell.Goals as goal
 
 pub overflow_sub-left : goal.overflow_sub-left
-overflow_sub-left c = (facts c.requires.asked_in.1).0
+overflow_sub-left c = more_left c.requires.asked_in.1
 
 pub overflow_add-at : goal.overflow_add-at
 overflow_add-at c = omega (arith, facts c.requires.asked_in.1)

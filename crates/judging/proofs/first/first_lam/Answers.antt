@@ -1,7 +1,7 @@
 -- `judging::first::first_lam` meets its contract.
 use mathlib.Core.Path.{refl}
 use native.Mathlib.Omega.{arith}
-use Rattle.judging.proofs.first.Kept.{facts}
+use Rattle.judging.proofs.first.Kept.{facts, more_left}
 use Rattle.judging.proofs.first.Function.{lam_result, lam_room, res_room, lam_13, lam_10, lam_go}
 use Rattle.judging.proofs.first.first_lam.Goals as goal
 
@@ -12,7 +12,7 @@ pub returns-then-a-from : goal.returns-then-a-from
 returns-then-a-from c = λ n O e. lam_13 O e c.requires.ends (rw (c.from.ensures, c.number_at-set.ensures) at c.if-a-from.true)
 
 pub overflow_sub-left : goal.overflow_sub-left
-overflow_sub-left c = (facts c.requires.asked_in.1).0
+overflow_sub-left c = more_left c.requires.asked_in.1
 
 pub skip-q-requires : goal.skip-q-requires
 skip-q-requires c = rw c.slot_of-from.ensures (lam_result c.requires.asked_in.1 c.requires.asked_in.2)

@@ -1,12 +1,12 @@
 -- `judging::first::first_lock` meets its contract.
 use native.Mathlib.Omega.{arith}
-use Rattle.judging.proofs.first.Kept.{part_movable, facts}
+use Rattle.judging.proofs.first.Kept.{part_movable, more_left}
 use Rattle.judging.proofs.first.NewLock.{lock_able, lock_15, lock_16, lock_first}
 use Rattle.judging.proofs.Refused.{missing, a_value}
 use Rattle.judging.proofs.first.first_lock.Goals as goal
 
 pub overflow_sub-left : goal.overflow_sub-left
-overflow_sub-left c = (facts c.requires.2.1).0
+overflow_sub-left c = more_left c.requires.2.1
 
 pub copy-requires : goal.copy-requires
 copy-requires c = rw (c.slot_of-to.ensures, c.slot_of.ensures) (part_movable c.requires.2.1)

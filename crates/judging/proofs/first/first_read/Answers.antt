@@ -1,10 +1,10 @@
 -- `judging::first::first_read` meets its contract.
-use Rattle.judging.proofs.first.Kept.{facts}
+use Rattle.judging.proofs.first.Kept.{more_left}
 use Rattle.judging.proofs.first.Read.{content_movable, read_name, read_stop, read_go}
 use Rattle.judging.proofs.first.first_read.Goals as goal
 
 pub overflow_sub-left : goal.overflow_sub-left
-overflow_sub-left c = (facts c.requires.2.1).0
+overflow_sub-left c = more_left c.requires.2.1
 
 pub returns-then-work-from : goal.returns-then-work-from
 returns-then-work-from c = λ img at n O e. read_stop O e (rw c.slot_of-from.ensures at c.if-work-from.true)

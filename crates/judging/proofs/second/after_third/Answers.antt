@@ -1,11 +1,11 @@
 -- `judging::second::after_third` meets its contract.
 use native.Mathlib.Omega.{arith}
-use Rattle.judging.proofs.second.Third.{facts, stated_there, stated_room, third_stop, third_go}
+use Rattle.judging.proofs.second.Third.{facts, stated_there, stated_room, third_stop, third_go, more_left}
 use Rattle.judging.proofs.Refused.{missing, a_value}
 use Rattle.judging.proofs.second.after_third.Goals as goal
 
 pub overflow_sub-left : goal.overflow_sub-left
-overflow_sub-left c = (facts c.requires.1).0
+overflow_sub-left c = more_left c.requires.1
 
 pub overflow_add-at : goal.overflow_add-at
 overflow_add-at c = omega (arith, (facts c.requires.1).2)

@@ -1,12 +1,12 @@
 -- `judging::second::second_app` meets its contract.
 use native.Mathlib.Omega.{arith}
 use Rattle.judging.proofs.second.Apply.{result_movable, arg_there, set_there, app_stop, app_go}
-use Rattle.judging.proofs.second.Plain.{facts}
+use Rattle.judging.proofs.second.Plain.{more_left}
 use Rattle.judging.proofs.Refused.{missing, a_value}
 use Rattle.judging.proofs.second.second_app.Goals as goal
 
 pub overflow_sub-left : goal.overflow_sub-left
-overflow_sub-left c = (facts c.requires.2.1).0
+overflow_sub-left c = more_left c.requires.2.1
 
 pub skip-p-requires : goal.skip-p-requires
 skip-p-requires c = rw c.slot_of-to.ensures (arg_there c.requires.2.1 c.requires.2.2)

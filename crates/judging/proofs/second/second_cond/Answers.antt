@@ -1,12 +1,12 @@
 -- `judging::second::second_cond` meets its contract.
 use native.Mathlib.Omega.{arith}
-use Rattle.judging.proofs.second.Plain.{facts}
+use Rattle.judging.proofs.second.Plain.{facts, more_left}
 use Rattle.judging.proofs.second.Cond.{cond_stop, cond_go}
 use Rattle.judging.proofs.Refused.{missing, a_value}
 use Rattle.judging.proofs.second.second_cond.Goals as goal
 
 pub overflow_sub-left : goal.overflow_sub-left
-overflow_sub-left c = (facts c.requires.1).0
+overflow_sub-left c = more_left c.requires.1
 
 pub overflow_add-at : goal.overflow_add-at
 overflow_add-at c = omega (arith, (facts c.requires.1).2)

@@ -1,9 +1,9 @@
 -- `judging::second::second_sync` meets its contract.
-use Rattle.judging.proofs.second.Plain.{part_movable, facts, sync_name, sync_second}
+use Rattle.judging.proofs.second.Plain.{part_movable, sync_name, sync_second, more_left}
 use Rattle.judging.proofs.second.second_sync.Goals as goal
 
 pub overflow_sub-left : goal.overflow_sub-left
-overflow_sub-left c = (facts c.requires.2.1).0
+overflow_sub-left c = more_left c.requires.2.1
 
 pub copy-requires : goal.copy-requires
 copy-requires c = rw (c.slot_of-to.ensures, c.slot_of.ensures) (part_movable c.requires.2.1)

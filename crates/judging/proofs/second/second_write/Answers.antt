@@ -1,11 +1,11 @@
 -- `judging::second::second_write` meets its contract.
-use Rattle.judging.proofs.second.Plain.{facts}
+use Rattle.judging.proofs.second.Plain.{more_left}
 use Rattle.judging.proofs.second.Write.{write_name, write_stop, write_go}
 use Rattle.judging.proofs.Refused.{missing, a_value}
 use Rattle.judging.proofs.second.second_write.Goals as goal
 
 pub overflow_sub-left : goal.overflow_sub-left
-overflow_sub-left c = (facts c.requires.2.1).0
+overflow_sub-left c = more_left c.requires.2.1
 
 pub only-requires : goal.only-requires
 only-requires c = rw c.slot_of-to.ensures (write_name c.requires.2.1 c.requires.2.2)

@@ -4,16 +4,15 @@ use Rattle.std.proofs.Common.{rules}
 use Rattle.std.specs.Prelude.{◌≡◌, Err}
 use Rattle.reading.proofs.image.Laws.{image_short, image_long, image_untrue, image_version, image_refused, image_read, image_left}
 use Rattle.reading.proofs.image.read_image.Goals as goal
+use Rattle.reading.proofs.image.read_image.Goals.{then-s-lt3-via-then-s-lt3, then-s-lt3-via-else-s-lt3+then-s-gt4096}
 
 pub returns-then-s-lt3 : goal.returns-then-s-lt3
 returns-then-s-lt3 c =
     let a = c.args in
-    image_short a.s.now c.if-s-lt3.true
-
-pub returns-then-s-gt4096 : goal.returns-then-s-gt4096
-returns-then-s-gt4096 c =
-    let a = c.args in
-    image_long a.s.now c.if-s-lt3.false c.if-s-gt4096.true
+    elim c.then-s-lt3.branch [
+      | then-s-lt3-via-then-s-lt3 w ↦ image_short a.s.now w.if-s-lt3.true
+      | then-s-lt3-via-else-s-lt3+then-s-gt4096 w ↦ image_long a.s.now w.if-s-lt3.false w.if-s-gt4096.true
+    ]
 
 pub returns-then-follow-s : goal.returns-then-follow-s
 returns-then-follow-s c =

@@ -1,12 +1,13 @@
 -- What is to come decides: the loop keeps the stack, the binders and the count of open sections, and each way out is one law of
 -- `ClosedLoop`.
-use mathlib.Core.Path.{refl, sym, ◌∙◌}
-use Rattle.std.proofs.Common.{add-one}
+use mathlib.Core.Path.{refl, ◌∙◌}
 use Prim.Native.Nat.{◌-◌}
 use native.Mathlib.Omega.{arith}
-use Rattle.slots.specs.ClosedLoop.{passing_start, passing_part, passing_past, passing_over, passing_end, passing_short, passing_uncoded}
+use Rattle.slots.specs.ClosedLoop.{passing_start, passing_part, passing_past, passing_told, passing_short, passing_uncoded}
 use Rattle.slots.specs.ClosedLoop.{passing_unbound, passing_cut, passing_full, passing_on}
 use Rattle.slots.proofs.closed.pass.Goals as goal
+use Rattle.slots.proofs.closed.pass.Goals.{then-not-is_code-via-then-not-is_code, then-not-is_code-via-else-not-is_code+then-not-field_ok}
+use Rattle.slots.proofs.closed.pass.Goals.{then-s-i-2-via-then-s-i-2, then-s-i-2-via-else-s-i-2+then-stack-part}
 
 pub loop-next-init : goal.loop-next-init
 loop-next-init c = passing_start _ _ _ c.args.stack.now c.requires
@@ -16,28 +17,26 @@ returns-then-s-i c = passing_short (passing_part c.loop-next.invariant c.in-Some
 
 pub returns-then-not-is_code : goal.returns-then-not-is_code
 returns-then-not-is_code c =
-    passing_uncoded (passing_part c.loop-next.invariant c.in-Some.is) c.if-s-i.false refl
-    (sym c.if-not-is_code.ensures)
-
-pub returns-then-not-field_ok : goal.returns-then-not-field_ok
-returns-then-not-field_ok c =
-    passing_unbound (passing_part c.loop-next.invariant c.in-Some.is) c.if-s-i.false refl
-    (sym c.if-not-is_code.ensures) c.from.result (c.from.ensures ∙ c.byte.ensures)
-    (sym c.if-not-field_ok.ensures)
+    let l = passing_part c.loop-next.invariant c.in-Some.is in
+    elim c.then-not-is_code.branch [
+      | then-not-is_code-via-then-not-is_code w ↦ passing_uncoded l c.if-s-i.false refl w.if-not-is_code.ensures
+      | then-not-is_code-via-else-not-is_code+then-not-field_ok w ↦
+          passing_unbound l c.if-s-i.false refl w.if-not-is_code.ensures (w.from.ensures ∙ w.byte_at.ensures)
+          w.if-not-field_ok.ensures
+    ]
 
 pub returns-then-s-i-2 : goal.returns-then-s-i-2
 returns-then-s-i-2 c =
-    passing_cut (passing_part c.loop-next.invariant c.in-Some.is) c.if-s-i.false refl
-    (sym c.if-not-is_code.ensures) c.from.result (c.from.ensures ∙ c.byte.ensures)
-    (sym c.if-not-field_ok.ensures) (c.width-w.result - 1)
-    (omega (arith, c.width-w.ensures.says)) (omega arith)
-
-pub returns-then-stack-part : goal.returns-then-stack-part
-returns-then-stack-part c =
-    passing_full (passing_part c.loop-next.invariant c.in-Some.is) c.if-s-i.false refl
-    (sym c.if-not-is_code.ensures) c.from.result (c.from.ensures ∙ c.byte.ensures)
-    (sym c.if-not-field_ok.ensures) (c.width-w.result - 1)
-    (omega (arith, c.width-w.ensures.says)) (omega (arith, c.pushes.ensures, c.if-stack-part.true))
+    let l = passing_part c.loop-next.invariant c.in-Some.is in
+    elim c.then-s-i-2.branch [
+      | then-s-i-2-via-then-s-i-2 w ↦
+          passing_cut l c.if-s-i.false refl c.if-not-is_code.ensures (c.from.ensures ∙ c.byte_at.ensures)
+          c.if-not-field_ok.ensures (c.width-w.result - 1) (omega (arith, c.width-w.ensures.says)) (omega (arith, w.if-s-i-2.true))
+      | then-s-i-2-via-else-s-i-2+then-stack-part w ↦
+          passing_full l c.if-s-i.false refl c.if-not-is_code.ensures (c.from.ensures ∙ c.byte_at.ensures)
+          c.if-not-field_ok.ensures (c.width-w.result - 1) (omega (arith, c.width-w.ensures.says))
+          (omega (arith, w.pushes.ensures, w.if-stack-part.true))
+    ]
 
 pub after-next-requires : goal.after-next-requires
 after-next-requires c =
@@ -51,14 +50,11 @@ pub loop-next-preserved : goal.loop-next-preserved
 loop-next-preserved c =
     let l = passing_part c.loop-next.invariant c.in-Some.is in
     passing_on l c.if-s-i.false refl
-    (sym c.if-not-is_code.ensures) c.from.result (c.from.ensures ∙ c.byte.ensures)
-    (sym c.if-not-field_ok.ensures) (c.width-w.result - 1)
+    c.if-not-is_code.ensures (c.from.ensures ∙ c.byte_at.ensures)
+    c.if-not-field_ok.ensures (c.width-w.result - 1)
     (omega (arith, c.width-w.ensures.says)) _ (omega arith) (omega arith)
     (omega (arith, c.pushes.ensures, c.if-stack-part.false, l.long, l.top))
-    c.opening-n.result c.opening-n.ensures.says c.after-next.auto.stack c.after-next.ensures
-
-pub returns-then-i-s : goal.returns-then-i-s
-returns-then-i-s c = passing_over (passing_past c.loop-next.invariant c.in_default.is) c.if-i-s.true refl
+    c.from-n.result (c.from-n.ensures ∙ c.is_open.ensures) c.after-next.auto.stack c.after-next.ensures
 
 pub returns : goal.returns
-returns c = sym (add-one c.loop-next.n) ∙ passing_end (passing_past c.loop-next.invariant c.in_default.is) c.if-i-s.false refl
+returns c = passing_told (passing_past c.loop-next.invariant c.in_default.is) refl c.then_some.ensures

@@ -27,14 +27,14 @@ slice_bounds-fill_both-count c = c.loop-i.invariant.low
 pub slice_bounds-fill_both-start : goal.slice_bounds-fill_both-start
 slice_bounds-fill_both-start c = c.loop-i.invariant.low
 
-pub shape_of-dst-then-dst-out : goal.shape_of-dst-then-dst-out
-shape_of-dst-then-dst-out c = c.fill_both-out.auto.dst ∙ putting_length c.loop-i.invariant
+pub shape_of-dst-in_err-out : goal.shape_of-dst-in_err-out
+shape_of-dst-in_err-out c = c.fill_both.auto.dst ∙ putting_length c.loop-i.invariant
 
-pub returns-then-dst-out : goal.returns-then-dst-out
-returns-then-dst-out c = putting_short (putting_part c.loop-i.invariant c.in-Some.is) c.loop-i-test.true refl (sym c.if-is_hit.ensures) c.fill_both-out.ensures (omega (arith, c.if-dst-out.true, c.fill_both-out.auto.dst))
+pub returns-in_err-out : goal.returns-in_err-out
+returns-in_err-out c = putting_short (putting_part c.loop-i.invariant c.in-Some.is) c.loop-i-test.true refl (sym c.if-is_hit.ensures) c.fill_both.ensures c.in_err-out.was c.from_residual.ensures
 
 pub loop-i-preserved-then-is_hit : goal.loop-i-preserved-then-is_hit
-loop-i-preserved-then-is_hit c = putting_value (putting_part c.loop-i.invariant c.in-Some.is) c.loop-i-test.true refl (sym c.if-is_hit.ensures) c.fill_both-out.ensures (omega (arith, c.if-dst-out.false, c.fill_both-out.auto.dst)) c.ended-next.auto.stack c.ended-next.ensures
+loop-i-preserved-then-is_hit c = putting_value (putting_part c.loop-i.invariant c.in-Some.is) c.loop-i-test.true refl (sym c.if-is_hit.ensures) c.fill_both.ensures c.in_ok-out.was c.ended-next.auto.stack c.ended-next.ensures
 
 pub after-next-requires : goal.after-next-requires
 after-next-requires c = record { top = putting_stack (putting_part c.loop-i.invariant c.in-Some.is) c.loop-i-test.true refl; deep = let l = putting_part c.loop-i.invariant c.in-Some.is in omega (arith, l.deep, l.long, c.loop-i-test.true) }

@@ -1,17 +1,6 @@
 -- The test is `cell_from`'s.
-use Rattle.std.proofs.Common.{sym, ◌∙◌, add-one}
-use native.Mathlib.Omega.{arith}
-use Rattle.slots.specs.WayLoop.{cell_here, cell_none}
+use Rattle.slots.specs.WayLoop.{cell_told}
 use Rattle.slots.proofs.way.cell_from.Goals as goal
 
-pub returns-then-byte-ne-CELL : goal.returns-then-byte-ne-CELL
-returns-then-byte-ne-CELL c =
-    record { says = cell_none c.args.s.now c.args.p c.byte.ensures c.if-byte-ne-CELL.true; small = omega arith }
-
 pub returns : goal.returns
-returns c =
-    record {
-      says = sym (add-one c.byte-2.result)
-          ∙ cell_here c.args.s.now c.args.p c.byte.ensures c.if-byte-ne-CELL.false c.byte-2.result c.byte-2.ensures;
-      small = omega arith;
-    }
+returns c = cell_told c.args.s.now c.args.p c.byte_at.ensures c.byte_at-2.ensures c.byte_at-2.type_inv c.then_some.ensures

@@ -13,7 +13,7 @@ use Rattle.states.proofs.plan.is_plan.Goals.{then-all_pass, else-all_pass, then-
 
 pub returns-then-all_pass-2 : goal.returns-then-all_pass-2
 returns-then-all_pass-2 c =
-    let n = c.args.counts in
+    let n = c.args.used.counts in
     let k = length c.args.stack.now in
     let p = c.all_pass.ensures (thread_test k n.locks n.cells) (thread_marks k n.locks n.cells) (λ x m st r m' st' e p. rw (← e) (search rules)) in
     let a = rw (c.thread.ensures ∙ threads_begin (card_of c.args.card)) at p in
@@ -31,7 +31,7 @@ returns-then-all_pass-2 c =
 
 pub returns-else-all_pass-2 : goal.returns-else-all_pass-2
 returns-else-all_pass-2 c =
-    let n = c.args.counts in
+    let n = c.args.used.counts in
     let k = length c.args.stack.now in
     let p = c.all_pass.ensures (thread_test k n.locks n.cells) (thread_marks k n.locks n.cells) (λ x m st r m' st' e p. rw (← e) (search rules)) in
     let a = rw (c.thread.ensures ∙ threads_begin (card_of c.args.card)) at p in

@@ -9,7 +9,7 @@ pub is_plan-requires : goal.is_plan-requires
 is_plan-requires c =
     let h = c.is_header.ensures.yes c.if-not-is_header.false in
     record {
-      within = within_by c.args.card.fits (omega (arith, c.size.ensures, c.if-s-size.false)) h {n = record { locks = c.from.result; cells = c.from-2.result }}
-          (c.from-threads.ensures ∙ c.byte_at.ensures) (c.from-2.ensures ∙ c.byte_at-3.ensures) (c.from.ensures ∙ c.byte_at-2.ensures);
-      marks = length-take-le c.from.result c.args.marks.now (omega (arith, c.from.ensures, c.byte_at-2.ensures, h.few_locks, c.requires));
+      within = within_by c.args.card.fits (omega (arith, c.size.ensures, c.if-s-size.false)) h (c.from.ensures ∙ c.byte_at.ensures) (c.from-3.ensures ∙ c.byte_at-3.ensures)
+          (c.from-2.ensures ∙ c.byte_at-2.ensures);
+      marks = length-take-le c.from-2.result c.args.marks.now (omega (arith, c.from-2.ensures, c.byte_at-2.ensures, h.few_locks, c.requires));
     }

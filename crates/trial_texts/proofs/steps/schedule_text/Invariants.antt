@@ -1,4 +1,3 @@
-use Prim.Native.Nat.{◌-◌}
 use lib.ListN.{length}
 use Rattle.trial_texts.specs.Along.{Going}
 use Rattle.trial_texts.specs.RunText.{schedule_from}

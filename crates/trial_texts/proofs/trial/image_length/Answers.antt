@@ -1,5 +1,4 @@
 -- `image_length` meets its contract: no length, or one of which as much is there as the input has.
-use native.Mathlib.Omega.{arith}
 use Rattle.trial_texts.specs.Input.{image_short, image_min}
 use Rattle.trial_texts.proofs.trial.image_length.Goals as goal
 
