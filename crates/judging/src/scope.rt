@@ -1,5 +1,5 @@
 // What a part stands under, a level deeper than its expression: the same, or a variable more, or a variable and a lock more. It is written whole, since a
-// struct with ghost facts takes no `..`; and in the caller, so that no rule makes a call more.
+// struct with ghost facts takes no `..`; and in the caller, so that no rule makes a call more. The reading's methods of `Scope` ask that something is left, so they stay in that crate, as all that asks does.
 ghost use Rattle.std.specs.Prelude.{◌≡◌, ◌+◌, ◌-◌, ◌<◌};
 
 use reading::scope::Scope;

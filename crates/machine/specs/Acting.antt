@@ -4,7 +4,7 @@ use Rattle.std.proofs.Math.Path.{refl, sym}
 use Rattle.std.proofs.Common.{◌∙◌, true≢false, arith, ltb-true}
 use Rattle.std.proofs.Math.Option.{some}
 use Rattle.paper.specs.Base.{at}
-use Rattle.paper.specs.Terms.{Term, term_bytes, value, as_cell, as_lock}
+use Rattle.paper.specs.Terms.{Term, term_bytes, value, as_cell}
 use Rattle.paper.specs.Evaluation.{placed}
 use Rattle.paper.specs.States.{State, Card, Holds, Fits}
 use Rattle.paper.specs.Steps.{move}
@@ -13,6 +13,7 @@ use Rattle.laws.specs.Values.{Value, v_unit, v_num, v_fun, v_lock, v_cell, is_va
 use Rattle.laws.specs.SlotBytes.{placed_small}
 use Rattle.laws.specs.StateBytes.{good_sound}
 use Rattle.plans.specs.ByteAt.{cells_from}
+use Rattle.plans.specs.Naming.{lock_below}
 use Rattle.plans.specs.Reads.{threads_read, cells_read, locks_read, mark_read, cell_read_lem}
 use Rattle.slots.specs.Walk.{skip_of}
 use Rattle.slots.specs.WayStep.{ready}
@@ -31,7 +32,7 @@ pub record Acts (card : Card) (s state : List ℕ) (room : ℕ) (out : List ℕ)
   pub does : (S : State) → Holds card state S → (x : Term) → Part s 0 (length s) x → ready x ≡ true → value x ≡ false
       → placed (length S.cells) (length S.marks) x ≡ true → Means card S s room out r (move card S x)
 
--- ---- the cell or lock that a value is
+-- ---- the cell that a value is
 
 module _ (cells locks : ℕ) where
   cell_below : {e : Term} {j : ℕ} → Value e → as_cell e ≡ some j → placed cells locks e ≡ true → j < cells
@@ -41,14 +42,6 @@ module _ (cells locks : ℕ) where
   cell_below v_fun q h = none_some q
   cell_below v_lock q h = none_some q
   cell_below {j = j} (v_cell {r = r}) q h = let z : r ≡ j = cc in rw (← z) (ltb-true r cells h)
-
-  lock_below : {e : Term} {l : ℕ} → Value e → as_lock e ≡ some l → placed cells locks e ≡ true → l < locks
-  unfolding placed
-  lock_below v_unit q h = none_some q
-  lock_below v_num q h = none_some q
-  lock_below v_fun q h = none_some q
-  lock_below {l = l} (v_lock {l = r}) q h = let z : r ≡ l = cc in rw (← z) (ltb-true r locks h)
-  lock_below v_cell q h = none_some q
 
 -- ---- one law for each code
 

@@ -39,6 +39,7 @@ fn default_held(state: &mut [u8], limit: u64, card: Card, scratch: &mut Scratch)
     limit
 }
 
+#[tactic(auto, using(laws::specs::Cards::sixteen_fits), unfolding(paper::specs::States::sixteen))]
 pub fn default_run(state: &mut [u8], limit: u64) -> Result<u64, Unfit>
     ensures { DefaultRuns sixteen state.old limit state.new result }
 {

@@ -1,4 +1,5 @@
-// From the code of the part that makes the step to the kind of step.
+// From the code of the part that makes the step to the kind of step. The codes are bytes by name, as slots has them: a part may begin with any byte,
+// and one that is no code, or none with a step, is stuck.
 ghost use Rattle.std.specs.Prelude.{◌≡◌, ◌<◌, ◌≤◌, length};
 ghost use Rattle.slots.specs.Walk.{skip_of};
 ghost use Rattle.machine.specs.Cuts.{Cut2};

@@ -8,6 +8,7 @@ use plans::card::SIXTEEN;
 use states::check_state;
 
 // One step of a thread: answers 1 and 18 first, then the machine's. Where no step is made the state is unchanged.
+#[tactic(auto, using(laws::specs::Cards::sixteen_fits), unfolding(paper::specs::States::sixteen))]
 pub fn step(state: &mut [u8], thread: u64) -> Result<Made, NoStep>
     ensures { Steps state.old thread state.new result }
 {

@@ -35,6 +35,7 @@ fn run_held(state: &mut [u8], schedule: &[u8], card: Card, scratch: &mut Scratch
     Ran { steps, last }
 }
 
+#[tactic(auto, using(laws::specs::Cards::sixteen_fits), unfolding(paper::specs::States::sixteen))]
 pub fn run(state: &mut [u8], schedule: &[u8]) -> Ran
     ensures { Runs sixteen state.old schedule.now state.new result }
 {

@@ -54,7 +54,7 @@ module _ (cells locks : ℕ) where
   cell_below v_lock q h = none_some q
   cell_below {j = j} (v_cell {r = r}) q h = let z : r ≡ j = cc in rw (← z) (ltb-true r cells h)
 
-  lock_below : {e : Term} {l : ℕ} → Value e → as_lock e ≡ some l → placed cells locks e ≡ true → l < locks
+  pub lock_below : {e : Term} {l : ℕ} → Value e → as_lock e ≡ some l → placed cells locks e ≡ true → l < locks
   unfolding placed
   lock_below v_unit q h = none_some q
   lock_below v_num q h = none_some q

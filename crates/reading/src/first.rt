@@ -13,7 +13,7 @@ use codes::ExpCode;
 use types::stated::{has_four, read_below, read_name, read_set, read_stated};
 
 // An expression before its last part: read whole, where it has none, with the place after it; or the last part's place, and what that stands under.
-// No ControlFlow (d): `Break(p)` and `Continue((p, under))` don't say what p is the place of.
+// No ControlFlow: `Break(p)` and `Continue((p, under))` don't say what p is the place of.
 #[derive(Clone, Copy, Debug, PartialEq, Eq)]
 pub(crate) enum Lead {
     Whole(usize),

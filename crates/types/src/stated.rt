@@ -76,7 +76,7 @@ pub fn read_set(s: &[u8], at: usize, locks: u8) -> Result<usize, Refusal>
     }
 }
 
-// A type before its last part: read whole, where it has none, with the place after it; or the last part's place. No ControlFlow<usize, usize> (d):
+// A type before its last part: read whole, where it has none, with the place after it; or the last part's place. No ControlFlow<usize, usize>:
 // `Break(p)` and `Continue(p)` don't say which place p is; and no type shared with the reading's Lead, whose last part has a Scope beside its place.
 #[derive(Clone, Copy, Debug, PartialEq, Eq)]
 pub(crate) enum Lead {
@@ -85,7 +85,7 @@ pub(crate) enum Lead {
 }
 
 // The type at `at`, with `left` of the nesting left, up to its last part: a Ref's content, or a Function's result. Cut, or no code: two tests here, in
-// read_stated, the reading and the lister (d): one function for them in codes, which knows no refusal, needs answers below it and a law for both codes.
+// read_stated, the reading and the lister, since one function for them in codes, which knows no refusal, would need answers below it and a law for both codes.
 #[cycle(leads)]
 fn read_lead(s: &[u8], at: usize, locks: u8, left: u8) -> Result<Lead, Refusal>
     ensures { TypeLed s.now at locks left result }
@@ -103,7 +103,7 @@ fn read_lead(s: &[u8], at: usize, locks: u8, left: u8) -> Result<Lead, Refusal>
         TypeCode::Unit | TypeCode::Int => Ok(Lead::Whole(at + 1)),
         TypeCode::Lock | TypeCode::Ref => {
             let p = read_name(s, at + 1, locks)?;
-            // (b): an arm for each makes the outer match a jump table; random stated types, Functions among them, then took 47 ns each instead of 44.
+            // One arm for both: an arm for each makes the outer match a jump table; random stated types, Functions among them, then took 47 ns each instead of 44.
             match code {
                 TypeCode::Lock => Ok(Lead::Whole(p)),
                 _ => Ok(Lead::Last(p)),

@@ -36,7 +36,7 @@ fn inside(md: Mode, m: u32, n: u32) -> bool
     }
 }
 
-// Bytes and place stand side by side here and below (d): `related` takes them so, and its cycle would build `At { bytes: x, at: i + 1 }` for each `x, i + 1`.
+// Bytes and place stand side by side here and below: `related` takes them so, and its cycle would build `At { bytes: x, at: i + 1 }` for each `x, i + 1`.
 // Two bytes, codes or names, each within its buffer.
 #[tactic(auto, unfolding(crate::specs::Subtype::same_byte))]
 fn same(x: &[u8], i: usize, y: &[u8], j: usize) -> bool

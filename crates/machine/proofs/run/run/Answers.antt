@@ -2,7 +2,6 @@
 use Rattle.std.proofs.Common.{sym, ◌∙◌}
 use borrow.Author.Tests.{eqb-true, eqb-false}
 use Rattle.paper.specs.States.{sixteen}
-use Rattle.laws.specs.Cards.{sixteen_fits}
 use Rattle.machine.specs.Public.{state_held}
 use Rattle.machine.specs.RunCalls.{runs_empty, runs_unfit}
 use Rattle.machine.proofs.run.run.Goals as goal
@@ -14,10 +13,6 @@ pub returns-in-Err : goal.returns-in-Err
 returns-in-Err c =
     let some = eqb-false _ 0 (sym c.is_empty.ensures ∙ c.if-is_empty.false) in
     runs_unfit c.args.state.now c.args.schedule.now c.in-Err.unfit c.in-Err.ensures some (rw c.from.ensures at c.answer_of.ensures)
-
-pub invariant_of-run_held : goal.invariant_of-run_held
-unfolding sixteen
-invariant_of-run_held c = record { fits = sixteen_fits }
 
 pub run_held-requires : goal.run_held-requires
 unfolding sixteen
