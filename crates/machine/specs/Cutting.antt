@@ -4,7 +4,7 @@ use Rattle.std.proofs.Math.Path.{refl}
 use Rattle.std.proofs.Common.{sym, ◌∙◌, arith}
 use Rattle.paper.specs.Terms.{Term, term_bytes}
 use Rattle.slots.specs.Walk.{skip_of}
-use Rattle.slots.specs.Coded.{Coded, coded_by, is_app, is_read, is_write}
+use Rattle.slots.specs.Coded.{Coded, coded_by, is_app, is_cell, is_read, is_write}
 use Rattle.slots.specs.Coded.{is_newlock, is_sync, is_bind, is_seq, is_add, is_cond, is_inside}
 use Rattle.machine.specs.Cuts.{Cut, Cut2, Cut3}
 use Rattle.machine.specs.Means.{Part, part_cut}
@@ -24,6 +24,7 @@ pub record Redex (s : List ℕ) (second : Option ℕ) : Type 0 where
 
 -- the codes of one part that is looked at, and of two
 pub data One : ℕ → Type 0 where
+  of_cell : One 6
   of_read : One 7
   of_newlock : One 10
 
@@ -44,6 +45,7 @@ module _ {s : List ℕ} {second : Option ℕ} (r : Redex s second) where
   one_cut {c} k e = go k r.there (coded c e)
     where
       go : {c : ℕ} {t : Term} → One c → Part s 0 (length s) t → Coded c t → Cut s 1 (length s)
+      go {t = t} of_cell h (is_cell a) = part_cut (one_part 6 t h a refl)
       go {t = t} of_read h (is_read a) = part_cut (one_part 7 t h a refl)
       go {t = t} of_newlock h (is_newlock a) = part_cut (one_part 10 t h a refl)
 

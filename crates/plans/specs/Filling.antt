@@ -1,6 +1,6 @@
--- A slot of a buffer that was lent, filled, and has come back.
-use Rattle.std.specs.Prelude.{◌≡◌, List, [], ◌++◌, ℕ, ◌+◌, ◌-◌, ◌/◌, ◌%◌, ◌<◌, ◌≤◌, length, set, take, drop, replicate}
-use Rattle.std.proofs.Common.{ap, ◌∙◌, ⊎_elim, append-nil, arith, length-set, length-append, length-drop, drop_of_length-le, get_or-set_same, get_or-set_other, get_or-take, get_or-drop, length-take-le}
+-- A lent part into which a copy is laid down byte by byte from its start. And a slot of a buffer that was filled and has come back.
+use Rattle.std.specs.Prelude.{◌≡◌, refl, ◌⊎◌, List, [], ◌++◌, ℕ, ◌+◌, ◌-◌, ◌/◌, ◌%◌, ◌<◌, ◌≤◌, length, set, take, drop, replicate}
+use Rattle.std.proofs.Common.{sym, ap, ◌∙◌, inl, inr, ⊎_elim, append-nil, arith, below_more, length-set, length-append, length-drop, drop_of_length-le, ext_get_or, get_or-set_same, get_or-set_other, get_or-take, get_or-drop, length-take-le}
 use Rattle.std.proofs.Math.Seq.{take-append_seam}
 use Rattle.paper.specs.Base.{at}
 use Rattle.paper.specs.States.{pad}
@@ -8,7 +8,42 @@ use Rattle.paper.specs.Calls.{laid}
 use Rattle.laws.specs.CallLaws.{laid_length}
 use Rattle.laws.specs.SlotBytes.{pad_length}
 use Rattle.plans.specs.Slots.{at_before, at_behind, pad_at}
+use Rattle.places.specs.Cases.{side}
 use Rattle.plans.specs.Store.{Room, Stored}
+
+-- the first i bytes are those of f, and the rest is as it was
+pub record Filling (f : ℕ → ℕ) (before part : List ℕ) (i : ℕ) : Type 0 where
+  pub kept : length part ≡ length before
+  pub below : i ≤ length before
+  pub done : (k : ℕ) → k < i → at part k ≡ f k
+  pub rest : (k : ℕ) → i ≤ k → at part k ≡ at before k
+
+pub filling_none : (f : ℕ → ℕ) (before : List ℕ) → Filling f before before 0
+filling_none f before = record { kept = refl; below = omega arith; done = λ k h. absurd (omega arith); rest = λ k h. refl }
+
+pub filling_more : {f : ℕ → ℕ} {before part : List ℕ} {i : ℕ} → Filling f before part i → i < length before → (v : ℕ) → v ≡ f i
+    → Filling f before (set part i v) (i + 1)
+filling_more {f = f} {part = part} {i = i} t h v e = record {
+  kept = length-set part i v ∙ t.kept;
+  below = omega arith;
+  done = below_more (λ k. at (set part i v) k ≡ f k) i (λ k l. get_or-set_other part i k v 0 (omega arith) ∙ t.done k l)
+      (get_or-set_same part i v 0 (omega (arith, t.kept)) ∙ e);
+  rest = λ k l. get_or-set_other part i k v 0 (omega arith) ∙ t.rest k (omega arith);
+}
+
+pub copied : (x : List ℕ) {before part : List ℕ} {i : ℕ} → Filling (at x) before part i → i ≡ length x → part ≡ laid x before
+unfolding laid
+copied x {before = before} {part = part} t e =
+    ext_get_or 0 part (x ++ drop (length x) before) (omega (arith, t.kept, t.below, length-append x (drop (length x) before), length-drop (length x) before))
+    (λ k h. go k (side k (length x)))
+  where
+    go : (k : ℕ) → (k < length x) ⊎ (length x ≤ k) → at part k ≡ at (x ++ drop (length x) before) k
+    go k (inl l) = t.done k (omega arith) ∙ sym (at_before x (drop (length x) before) k l)
+    go k (inr l) =
+        let q : length x + (k - length x) ≡ k = omega arith in
+        t.rest k (omega arith) ∙ sym (ap (at before) q) ∙ sym (get_or-drop (length x) before (k - length x) 0) ∙ sym (at_behind x (drop (length x) before) (length x) k refl l)
+
+-- ---- a part that was lent and has come back
 
 -- ys in the place of the k bytes from a on
 abbrev pub back : List ℕ → ℕ → ℕ → List ℕ → List ℕ

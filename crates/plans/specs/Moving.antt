@@ -26,6 +26,10 @@ pub record Moved (from to lo hi : ℕ) (before after : List ℕ) : Type 0 where
   pub done : (k : ℕ) → lo ≤ k → k < hi → at after (to + k) ≡ at before (from + k)
   pub rest : (k : ℕ) → (k < to + lo) ⊎ (to + hi ≤ k) → at after k ≡ at before k
 
+-- bytes that stay are moved
+pub moved_same : (from n : ℕ) {to : ℕ} {before : List ℕ} → from ≡ to → Moved from to 0 n before before
+moved_same from n {before = before} e = record { kept = refl; done = λ k l u. ap (λ x. at before (x + k)) (sym e); rest = λ k o. refl }
+
 pub moved_within : {from to n : ℕ} {before after : List ℕ} → length after ≡ length before
     → CopiedTo before after from to n × SameBelow before after to × SameFrom before after (to + n) → Moved from to 0 n before after
 moved_within {from = from} {to = to} {before = before} l w = record {

@@ -1,23 +1,25 @@
 // Slots of a lent buffer and their lengths. The slots are the caller's, so that every card is served. Each function is total: what would
 // reach past the buffer writes nothing.
-ghost use Rattle.std.specs.Prelude.{◌≡◌, ◌+◌, ◌≤◌, length, take};
+ghost use Rattle.std.specs.Prelude.{◌≡◌, ◌+◌, ◌-◌, ◌≤◌, length, take};
 ghost use Rattle.paper.specs.States.{pad};
 ghost use Rattle.paper.specs.Calls.{laid};
 ghost use Rattle.laws.specs.Lists.{spliced};
 ghost use Rattle.plans.specs.Store.{NoRoom, Stores, two_put};
 ghost use Rattle.plans.specs.Blank.{Blanks};
 ghost use Rattle.plans.specs.Exchange.{Exchanges};
-ghost use Rattle.plans.specs.Moving.{Rewritable};
+ghost use Rattle.plans.specs.Moving.{Moved, Rewritable};
 
 use crate::card::Slot;
 use zeros::clear;
 
-#[tactic(auto, unfolding(paper::specs::Calls::laid))]
+// A loop, since `copy_from_slice` would make the archive for C need memmove.
 fn copy(part: &mut [u8], bytes: &[u8])
     requires { length bytes.now ≤ length part.old }
     ensures { part.new ≡ laid bytes.now part.old }
 {
-    part[..bytes.len()].copy_from_slice(bytes);
+    for (i, &b) in bytes.iter().enumerate() {
+        part[i] = b;
+    }
 }
 
 fn fill_slot(slot: &mut [u8], bytes: &[u8])
@@ -57,13 +59,23 @@ pub fn store(state: &mut [u8], slot: Slot, bytes: &[u8])
     put_two(state, slot.place, bytes.len());
 }
 
+// The bytes from `from` up to `end` go to `to`. Where they stand there already, `copy_within` would still go over each of them.
+fn shift(slot: &mut [u8], from: usize, end: usize, to: usize)
+    requires { (from ≤ end) × (end ≤ length slot.old) × (to + (end - from) ≤ length slot.old) }
+    ensures { Moved from to 0 (end - from) slot.old slot.new }
+{
+    if from != to {
+        slot.copy_within(from..end, to);
+    }
+}
+
 fn rewrite(slot: &mut [u8], used: usize, p: usize, q: usize, mid: &[u8])
     requires { Rewritable used p q mid.now slot.old }
     ensures { slot.new ≡ pad (length slot.old) (spliced (take used slot.old) p q mid.now) }
 {
     let r = p + mid.len();
     let n = used - q;
-    slot.copy_within(q..used, r);
+    shift(slot, q, used, r);
     copy(&mut slot[p..r], mid);
     let end = r + n;
     clear(&mut slot[end..]);

@@ -37,10 +37,10 @@ module _ (input : List ℕ) where
   pub image_short : length input < 2 → Image input (length input)
   image_short h = at_length (omega arith) (short h)
 
-  image_whole : {n : ℕ} → n ≡ word16 input 0 → 2 ≤ length input → n + 2 ≤ length input → Image input (n + 2)
+  pub image_whole : {n : ℕ} → n ≡ word16 input 0 → 2 ≤ length input → n + 2 ≤ length input → Image input (n + 2)
   image_whole e h k = at_length k (let l = long h in omega arith)
 
-  image_cut : 2 ≤ length input → length input < word16 input 0 + 2 → Image input (length input)
+  pub image_cut : 2 ≤ length input → length input < word16 input 0 + 2 → Image input (length input)
   image_cut h k =
       let l : length input ≤ image_length input = let e = long h in omega arith in
       record {
@@ -60,7 +60,7 @@ module _ (input : List ℕ) where
           subst (Image input) (sym f) (image_cut h (omega arith))
 
   module _ (n : ℕ) (h : n ≤ length input) where
-    schedule_rest : length input - n < 8192 → Schedule input n (length input)
+    pub schedule_rest : length input - n < 8192 → Schedule input n (length input)
     schedule_rest k =
         let l = length-drop n input in
         record {
@@ -70,7 +70,7 @@ module _ (input : List ℕ) where
           bytes = take_all (length input - n) (drop n input) (omega arith) ∙ sym (take_all 8192 (drop n input) (omega arith));
         }
 
-    schedule_full : 8192 ≤ length input - n → Schedule input n (n + 8192)
+    pub schedule_full : 8192 ≤ length input - n → Schedule input n (n + 8192)
     schedule_full k =
         let e : n + 8192 - n ≡ 8192 = omega arith in
         record { order = omega arith; inside = omega arith; few = omega arith; bytes = ap (λ (j : ℕ). take j (drop n input)) e }

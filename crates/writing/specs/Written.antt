@@ -147,23 +147,28 @@ written_behind {x} {before} {d} {n} s v {d'} {r} w =
           ∙ ap (λ (y : List ℕ). take (length before) ((x ++ v) ++ y)) t;
     }
 
--- x written behind what stands before `at`, and v behind x
+some_none : {n : ℕ} → Some n ≡ None → ⊥
+some_none e = let z : ◌≡◌ {A = ℕ} 0 1 = cc in omega arith
+
+some_same : {n m : ℕ} → Some n ≡ Some m → n ≡ m
+some_same {n} = ap (λ (o : Option ℕ). elim o [ Some k ↦ k | None ↦ n ])
+
+-- x written behind what stands before `at`, and v behind x: a line is its parts one behind the other
 module _ (d x : List ℕ) (at : ℕ) {d₁ : List ℕ} {r₁ : Option ℕ} (w : Written (take at d ++ x) d d₁ r₁) (v : List ℕ) where
-  pub both_short : r₁ ≡ None → {r : Option ℕ} → r ≡ None → Written (take at d ++ (x ++ v)) d d₁ r
-  both_short e {r} f = subst (λ (y : List ℕ). Written y d d₁ r) (append_assoc (take at d) x v) (written_short w e v f)
-
-  pub both_written : {n : ℕ} → r₁ ≡ Some n → {d₂ : List ℕ} {r : Option ℕ} → Written (take n d₁ ++ v) d₁ d₂ r → Written (take at d ++ (x ++ v)) d d₂ r
-  both_written e {d₂} {r} z =
-      subst (λ (y : List ℕ). Written y d d₂ r) (append_assoc (take at d) x v) (written_behind (fits_stands (written_fits w e)) v z)
-
-  -- either way
   pub then_written : {d₂ : List ℕ} {r : Option ℕ} → ((n : ℕ) → r₁ ≡ Some n → Written (take n d₁ ++ v) d₁ d₂ r)
       → (r₁ ≡ None → (r ≡ None) × (d₂ ≡ d₁)) → Written (take at d ++ (x ++ v)) d d₂ r
-  then_written {d₂} {r} on stop = go r₁ refl
+  then_written {d₂} {r} on stop = subst (λ (y : List ℕ). Written y d d₂ r) (append_assoc (take at d) x v) (go r₁ refl)
     where
-      go : (o : Option ℕ) → r₁ ≡ o → Written (take at d ++ (x ++ v)) d d₂ r
-      go (Some n) e = both_written e (on n e)
-      go None e = subst (λ (y : List ℕ). Written (take at d ++ (x ++ v)) d y r) (sym (stop e).1) (both_short e (stop e).0)
+      go : (o : Option ℕ) → r₁ ≡ o → Written ((take at d ++ x) ++ v) d d₂ r
+      go (Some n) e = written_behind (fits_stands (written_fits w e)) v (on n e)
+      go None e = subst (λ (y : List ℕ). Written ((take at d ++ x) ++ v) d y r) (sym (stop e).1) (written_short w e v (stop e).0)
+
+  -- its two cases
+  pub both_short : r₁ ≡ None → {r : Option ℕ} → r ≡ None → Written (take at d ++ (x ++ v)) d d₁ r
+  both_short e f = then_written (λ n g. absurd (some_none (sym g ∙ e))) (λ g. (f, refl))
+
+  pub both_written : {n : ℕ} → r₁ ≡ Some n → {d₂ : List ℕ} {r : Option ℕ} → Written (take n d₁ ++ v) d₁ d₂ r → Written (take at d ++ (x ++ v)) d d₂ r
+  both_written {n} e {d₂} {r} z = then_written (λ m g. subst (λ (k : ℕ). Written (take k d₁ ++ v) d₁ d₂ r) (some_same (sym e ∙ g)) z) (λ g. absurd (some_none (sym e ∙ g)))
 
 -- ---- a place past the end is the end
 

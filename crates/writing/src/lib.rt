@@ -3,7 +3,7 @@
 // caller.
 #![tactic(auto)]
 
-ghost use Rattle.std.specs.Prelude.{◌≡◌, ◌++◌, ◌<◌, min, take};
+ghost use Rattle.std.specs.Prelude.{◌≡◌, ◌++◌, ◌<◌, length, min, take};
 ghost use Rattle.paper.specs.Texts.{decimal, hex, hex_digit};
 ghost use Rattle.writing.specs.Written.{Written};
 ghost use Rattle.writing.specs.Digits.{ended};
@@ -15,13 +15,23 @@ pub fn least(a: usize, b: usize) -> usize
     a.min(b)
 }
 
+// A loop, since `copy_from_slice` would make the archive for C need memmove.
+fn copy(dst: &mut [u8], src: &[u8])
+    requires { length dst.old ≡ length src.now }
+    ensures { dst.new ≡ src.now }
+{
+    for (i, &b) in src.iter().enumerate() {
+        dst[i] = b;
+    }
+}
+
 // v into dst from `at` on.
 pub fn fill(v: &[u8], dst: &mut [u8], at: usize) -> Option<usize>
     ensures { Written (take at dst.old ++ v.now) dst.old dst.new result }
 {
     let from = at.min(dst.len());
     let n = v.len().min(dst.len() - from);
-    dst[from..from + n].copy_from_slice(&v[..n]);
+    copy(&mut dst[from..from + n], &v[..n]);
     if n < v.len() { None } else { Some(from + n) }
 }
 

@@ -11,7 +11,7 @@ returns-then-n-v c =
     let d = c.args.dst.now in
     let from = c.min-from.result in
     let h : from ≤ length d = omega arith in
-    let f = filling_copied v d from h c.min-n.result c.min-n.ensures c.copy_from_slice.ensures.after in
+    let f = filling_copied v d from h c.min-n.result c.min-n.ensures c.copy.ensures in
     cut_written d c.args.at from c.min-from.ensures v (filling_short v d from h c.min-n.result c.min-n.ensures f (omega arith) c.if-n-v.true)
 
 pub returns-else-n-v : goal.returns-else-n-v
@@ -20,5 +20,5 @@ returns-else-n-v c =
     let d = c.args.dst.now in
     let from = c.min-from.result in
     let h : from ≤ length d = omega arith in
-    let f = filling_copied v d from h c.min-n.result c.min-n.ensures c.copy_from_slice.ensures.after in
+    let f = filling_copied v d from h c.min-n.result c.min-n.ensures c.copy.ensures in
     cut_written d c.args.at from c.min-from.ensures v (filling_all v d from h c.min-n.result c.min-n.ensures f (omega arith) c.if-n-v.false)

@@ -2,11 +2,11 @@
 use Prim.Native.Nat.{◌+◌, ◌-◌}
 use native.Mathlib.Omega.{arith}
 use lib.ListN.{length}
-use Rattle.plans.specs.Moving.{moved_within, rewritten}
+use Rattle.plans.specs.Moving.{rewritten}
 use Rattle.plans.proofs.store.rewrite.Goals as goal
 
 pub returns : goal.returns
 returns c =
     let a = c.args in
-    rewritten a.used a.p a.q a.mid.now a.slot.now c.requires c.copy_within.new.self c.copy.new.part (moved_within c.copy_within.ensures.len c.copy_within.ensures.by_index)
+    rewritten a.used a.p a.q a.mid.now a.slot.now c.requires c.shift.new.slot c.copy.new.part c.shift.ensures
     (a.p + length a.mid.now - a.p) (omega arith) c.copy.ensures c.clear.new.part _ c.clear.ensures (omega arith)
