@@ -59,8 +59,11 @@ pub(crate) fn copy(w: &mut [u8], from: usize, to: usize)
         w[to] = code as u8;
         return;
     }
-    let end = skip(w, from);
-    w.copy_within(from..end, to);
+    let size = skip(w, from) - from;
+    // Not `copy_within`: the archive for C would need memmove.
+    for i in 0..size {
+        w[to + i] = w[from + i];
+    }
 }
 
 // n bytes of another buffer.
@@ -68,7 +71,10 @@ pub(crate) fn copy_in(s: &[u8], from: usize, n: usize, w: &mut [u8], to: usize)
     requires { (from + n ≤ length s.now) × (to + n ≤ length w.old) }
     ensures { Copied s.now from n w.old w.new to }
 {
-    w[to..to + n].copy_from_slice(&s[from..from + n]);
+    // Not `copy_from_slice`: the archive for C would need memmove.
+    for i in 0..n {
+        w[to + i] = s[from + i];
+    }
 }
 
 // The type at `at` to the front of another buffer; its length.
