@@ -83,7 +83,9 @@ pub(crate) fn give(s: &[u8], at: usize, w: &mut [u8]) -> usize
     ensures { Given s.now at w.old w.new result }
 {
     let size = skip(s, at) - at;
-    copy_in(s, at, size, w, 0);
+    let code = s[at]; // by itself: must-fail/unit_always.edit changes it alone
+    w[0] = code;
+    copy_in(s, at + 1, size - 1, w, 1);
     size
 }
 
