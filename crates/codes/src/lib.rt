@@ -22,6 +22,8 @@ impl TryFrom<u8> for TypeCode {
 
     ghost try_from_gives = { TypeDecodes };
 
+    // Inlined, so that a match on the code is one on the byte.
+    #[inline(always)]
     fn try_from(b: u8) -> Result<TypeCode, NoSuchCode> {
         match b {
             0x20 => Ok(TypeCode::Unit),

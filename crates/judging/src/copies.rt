@@ -6,14 +6,16 @@ ghost use Rattle.paper.specs.Calls.{zeroed};
 
 use codes::TypeCode;
 
-// The code of the type at `at`.
+// The code of the type at `at`. No other byte stands there: the arm for one is Unit's, which is the default arm of each match, since a trap would be
+// one more test at each code of a type.
+#[inline(always)]
 pub(crate) fn code_at(s: &[u8], at: usize) -> TypeCode
     requires { Some s.now at }
     ensures { type_byte result ≡ get_or s.now at 0 }
 {
     match TypeCode::try_from(s[at]) {
         Ok(code) => code,
-        Err(_) => unreachable!(),
+        Err(_) => TypeCode::Unit,
     }
 }
 
@@ -57,8 +59,11 @@ pub(crate) fn copy(w: &mut [u8], from: usize, to: usize)
         w[to] = code as u8;
         return;
     }
-    let end = skip(w, from);
-    w.copy_within(from..end, to);
+    let size = skip(w, from) - from;
+    // Not `copy_within`: the archive for C would need memmove.
+    for i in 0..size {
+        w[to + i] = w[from + i];
+    }
 }
 
 // n bytes of another buffer.
@@ -66,7 +71,10 @@ pub(crate) fn copy_in(s: &[u8], from: usize, n: usize, w: &mut [u8], to: usize)
     requires { (from + n ≤ length s.now) × (to + n ≤ length w.old) }
     ensures { Copied s.now from n w.old w.new to }
 {
-    w[to..to + n].copy_from_slice(&s[from..from + n]);
+    // Not `copy_from_slice`: the archive for C would need memmove.
+    for i in 0..n {
+        w[to + i] = s[from + i];
+    }
 }
 
 // The type at `at` to the front of another buffer; its length.
@@ -75,7 +83,9 @@ pub(crate) fn give(s: &[u8], at: usize, w: &mut [u8]) -> usize
     ensures { Given s.now at w.old w.new result }
 {
     let size = skip(s, at) - at;
-    copy_in(s, at, size, w, 0);
+    let code = s[at]; // by itself: must-fail/unit_always.edit changes it alone
+    w[0] = code;
+    copy_in(s, at + 1, size - 1, w, 1);
     size
 }
 

@@ -1,19 +1,37 @@
 -- Copying, byte by byte, and what a copy holds; and the end of a type, by its code.
 use mathlib.Core.Path.{◌≡◌, refl, ap, ◌∙◌}
 use mathlib.Core.List.{List, ◌++◌}
+use mathlib.Core.Logic.{⊎_elim}
 use Prim.Native.Nat.{ℕ, ◌+◌, ◌-◌, ◌≤◌, ◌<◌}
 use native.Mathlib.Omega.{arith}
+use native.Mathlib.Nat.{add-zero}
+use native.Mathlib.Decide.{ℕ_discrete}
 use borrow.Rule.Slice.PartMut.{put_mid}
 use lib.ListN.{length, get_or, set, take, drop, length-set, length-append, length-drop, get_or-append}
-use lib.Seq.{get_or-set_same, get_or-append-add, get_or-take, get_or-drop, length-take-le}
+use lib.Seq.{get_or-set_same, get_or-set_other, get_or-append-add, get_or-take, get_or-drop, length-take-le}
 use Rattle.paper.specs.Types.{Ty, unit, int, lock, ref, fun, ty_size}
 use Rattle.types.specs.Holds.{Holds, Byte, Four}
 use Rattle.codes.specs.declared.TypeCode.{TypeCode}
 use Rattle.codes.specs.declared.TypeCode.TheVariants.{Lock, Ref, Function}
 use Rattle.codes.specs.Codes.{type_byte}
 use Rattle.judging.proofs.copies.Codes.{is_leaf}
-use Rattle.judging.proofs.Held.{held, holds_end, by_lock, by_leaf, kept_wider, kept_set}
+use Rattle.judging.proofs.Held.{held, holds_end, by_lock, by_leaf, kept_wider, kept_then, kept_refl, kept_set}
 use Rattle.judging.specs.Copies.{Copied, Movable, Moved, Some, Ends}
+
+pub none : (s : List ℕ) (from : ℕ) (w : List ℕ) (to : ℕ) → Copied s from 0 w w to
+none s from w to = record { kept = kept_refl w to (to + 0); same = λ j h. absurd (omega arith) }
+
+-- one byte more
+pub more : (s : List ℕ) (from i : ℕ) (w w₁ : List ℕ) (to b : ℕ) → Copied s from i w w₁ to → to + i < length w₁ → b ≡ get_or s (from + i) 0 → Copied s from (i + 1) w (set w₁ (to + i) b) to
+more s from i w w₁ to b c h e =
+    record {
+      kept = kept_then (kept_wider c.kept to (to + (i + 1)) (omega arith) (omega arith)) (kept_wider (kept_set w₁ (to + i) b) to (to + (i + 1)) (omega arith) (omega arith));
+      same = λ j l. at j l (ℕ_discrete j i);
+    }
+  where
+    at : (j : ℕ) → j < i + 1 → Dec (j ≡ i) → get_or (set w₁ (to + i) b) (to + j) 0 ≡ get_or s (from + j) 0
+    at j l (yes z) = rw z (get_or-set_same w₁ (to + i) b 0 h ∙ e)
+    at j l (no z) = get_or-set_other w₁ (to + i) (to + j) b 0 (λ x. omega arith) ∙ c.same j (omega arith)
 
 -- ys, a part of s, is written over a part of w
 module _ (s : List ℕ) (from n : ℕ) (w : List ℕ) (to : ℕ) (ys : List ℕ) (e : ys ≡ take (from + n - from) (drop from s)) (l : from + n ≤ length s) (h : to + n ≤ length w) where
@@ -85,6 +103,25 @@ holds_moved s i s' j t f l h = go t i j f l h
 pub holds_copied : (s : List ℕ) (from n : ℕ) (w w' : List ℕ) (to : ℕ) (t : Ty) → Copied s from n w w' to → to + n ≤ length w → ty_size t ≤ n → Holds s from t → Holds w' to t
 holds_copied s from n w w' to t c l z h = holds_moved s from w' to t (λ k g. c.same k (omega arith)) (omega (arith, c.kept.long)) h
 
+-- the first byte by itself, and then the others
+pub code_first : (s w w' : List ℕ) (at n b : ℕ) → Copied s (at + 1) (n - 1) (set w 0 b) w' 1 → b ≡ get_or s at 0 → 1 ≤ n → n ≤ length w → Copied s at n w w' 0
+code_first s w w' at n b c e h l =
+    record {
+      kept = record {
+        long = c.kept.long ∙ length-set w 0 b;
+        low = λ i l. absurd (omega arith);
+        high = λ i l. c.kept.high i (omega arith) ∙ get_or-set_other w 0 i b 0 (λ z. omega arith);
+      };
+      same = λ j k. go j k (ℕ_discrete j 0);
+    }
+  where
+    go : (j : ℕ) → j < n → Dec (j ≡ 0) → get_or w' (0 + j) 0 ≡ get_or s (at + j) 0
+    go j k (yes z) = rw (z, add-zero at) (c.kept.low 0 (omega arith) ∙ get_or-set_same w 0 b 0 (omega arith) ∙ e)
+    go j k (no z) =
+        let x : 0 + j ≡ 1 + (j - 1) = omega arith in
+        let y : at + j ≡ at + 1 + (j - 1) = omega arith in
+        rw (x, y) (c.same (j - 1) (omega arith))
+
 -- ---- a type moved within its buffer
 
 -- Unit and Int are their code
@@ -106,6 +143,12 @@ module _ (w : List ℕ) (from to p : ℕ) (M : Movable w from to) (d : Ends w fr
       let s = M.2 in
       let l = M.3 in
       (omega arith, omega arith, omega arith, omega arith)
+
+  -- what is still to be copied is as it was
+  pub unmoved : (i : ℕ) (w₁ : List ℕ) → Copied w from i w w₁ to → i < p - from → get_or w₁ (from + i) 0 ≡ get_or w (from + i) 0
+  unmoved i w₁ c h =
+      let r = move_room.2 in
+      ⊎_elim (λ l. c.kept.high (from + i) (omega arith)) (λ l. c.kept.low (from + i) (omega arith)) M.4
 
   pub moved : (w' : List ℕ) → Copied w from (p - from) w w' to → Moved w w' from to
   moved w' c =

@@ -6,5 +6,5 @@ use Rattle.judging.proofs.copies.code_at.Goals as goal
 pub bounds-s-at : goal.bounds-s-at
 bounds-s-at c = end_here _ _ c.requires
 
-pub unreachable-requires : goal.unreachable-requires
-unreachable-requires c = is_code _ _ c.requires c.try_from.ensures c.in-Err.is
+pub returns-in-Err : goal.returns-in-Err
+returns-in-Err c = absurd (is_code _ _ c.requires c.try_from.ensures c.in-Err.is)

@@ -1,9 +1,9 @@
 -- `judging::copies::copy` meets its contract.
 use native.Mathlib.Omega.{arith}
-use mathlib.Core.Path.{ap, sym, ◌∙◌}
-use Prim.Native.Nat.{ℕ, ◌+◌}
-use lib.ListN.{get_or}
-use Rattle.judging.proofs.copies.Laws.{moved_leaf, move_room, moved}
+use mathlib.Core.Path.{◌≡◌, sym, ◌∙◌, subst}
+use Prim.Native.Nat.{ℕ, ◌-◌}
+use Rattle.judging.specs.Copies.{Copied}
+use Rattle.judging.proofs.copies.Laws.{moved_leaf, none, more, move_room, unmoved, moved}
 use mathlib.Core.Logic.{inl, inr}
 use Rattle.paper.specs.Known.{no_true}
 use Rattle.judging.proofs.copies.Codes.{byte_is}
@@ -19,15 +19,26 @@ bounds-w-to c = omega (arith, c.requires.3)
 pub returns-then-matches : goal.returns-then-matches
 returns-then-matches c = rw (byte_is c.code_at-code.result) (moved_leaf _ _ _ _ c.requires c.code_at-code.ensures (elim c.match-matches.branch [ in-Unit w ↦ elim w.in-Unit.is [ inl e ↦ rw e (omega arith) | inr e ↦ rw e (omega arith) ] | in_default w ↦ no_true (sym w.matches-is ∙ c.if-matches.true) ]))
 
-pub copy_within-requires-clause-in_bounds : goal.copy_within-requires-clause-in_bounds
-copy_within-requires-clause-in_bounds c = (move_room c.args.w.now c.args.from c.args.to c.skip-end.result c.requires c.skip-end.ensures).1
+pub loop-i-init : goal.loop-i-init
+loop-i-init c = none c.args.w.now c.args.from c.args.w.now c.args.to
 
-pub skip-end-requires : goal.skip-end-requires
-skip-end-requires c = (c.requires.0, c.requires.1)
+pub bounds-w-from : goal.bounds-w-from
+bounds-w-from c = omega (arith, move_room c.args.w.now c.args.from c.args.to c.skip.result c.requires c.skip.ensures, c.loop-i-test.true, c.loop-i.invariant.kept.long)
+
+pub loop-i-preserved : goal.loop-i-preserved
+loop-i-preserved c =
+    let w = c.args.w.now in
+    let from = c.args.from in
+    let to = c.args.to in
+    let p = c.skip.result in
+    let i = c.loop-i.i in
+    more w from i w c.loop-i.w to _ c.loop-i.invariant (omega (arith, move_room w from to p c.requires c.skip.ensures, c.loop-i-test.true, c.loop-i.invariant.kept.long)) (unmoved w from to p c.requires c.skip.ensures i c.loop-i.w c.loop-i.invariant c.loop-i-test.true)
 
 pub returns : goal.returns
 returns c =
-    let b = c.copy_within.ensures.by_index in
-    let r = move_room c.args.w.now c.args.from c.args.to c.skip-end.result c.requires c.skip-end.ensures in
-    moved c.args.w.now c.args.from c.args.to c.skip-end.result c.requires c.skip-end.ensures _
-    (record { kept = record { long = c.copy_within.ensures.len; low = λ i l. b.1 i 0 l; high = λ i l. b.2 i 0 l }; same = λ j l. b.0 (c.args.to + j) 0 (omega arith) (omega arith) ∙ ap (λ (k : ℕ). get_or c.args.w.now k 0) (omega arith) })
+    let w = c.args.w.now in
+    let from = c.args.from in
+    let to = c.args.to in
+    let p = c.skip.result in
+    let z : c.loop-i.i ≡ p - from = omega (arith, c.loop-i-test.false, c.loop-i.auto.i-end) in
+    moved w from to p c.requires c.skip.ensures c.loop-i.w (subst (λ (k : ℕ). Copied w from k w c.loop-i.w to) z c.loop-i.invariant)

@@ -1,0 +1,5 @@
+use Rattle.judging.specs.Copies.{Copied}
+use Rattle.judging.proofs.copies.copy.Given as goal
+
+abbrev pub invariant-loop-i : goal.invariant-loop-i
+invariant-loop-i l = Copied l.initial.w l.from l.i l.initial.w l.w l.to
