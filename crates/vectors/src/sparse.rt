@@ -1,7 +1,7 @@
 // A state as a field: `length:offset=hex+offset=hex`, every other byte zero.
 use crate::buffers::STATE;
 use crate::due::STATE_BYTES;
-use lines::cut::{after, before};
+use lines::cut::{after, before, parted};
 use lines::digits::{decimal, hex};
 
 const PLUS: u8 = b'+';
@@ -18,8 +18,9 @@ fn put_piece(piece: &[u8], out: &mut [u8]) -> Option<usize> {
 fn put_pieces(pieces: &[u8], out: &mut [u8]) -> Option<()> {
     let mut left = pieces;
     while !left.is_empty() {
-        put_piece(before(left, PLUS), out)?;
-        left = after(left, PLUS);
+        let (piece, behind) = parted(left, PLUS);
+        put_piece(piece, out)?;
+        left = behind;
     }
     Some(())
 }
