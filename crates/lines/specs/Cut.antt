@@ -24,3 +24,8 @@ before_first b s = take (until_first b s) s
 
 abbrev pub after_first : ℕ → List ℕ → List ℕ
 after_first b s = drop (until_first b s + 1) s
+
+-- both parts
+pub record Parted (b : ℕ) (s front behind : List ℕ) : Type 0 where
+  pub stands_before : front ≡ before_first b s
+  pub stands_after : behind ≡ after_first b s

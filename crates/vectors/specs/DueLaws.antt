@@ -1,6 +1,7 @@
 -- What the comparisons show, one law for each way out of them.
-use Rattle.std.specs.Prelude.{Bool, true, false, List, ◌≡◌, refl, ℕ, ◌+◌, ◌-◌, ◌≤◌, ◌<◌, eqb, length, get_or, take, drop}
-use Rattle.std.proofs.Common.{ap, sym, ◌∙◌, arith, eq-eqb, eqb-true, length-take, length-drop, take_all, length-take-le, get_or-take, get_or-drop}
+use Rattle.std.specs.Prelude.{Bool, true, false, List, ◌≡◌, refl, ℕ, ◌+◌, ◌-◌, ◌≤◌, ◌<◌, ◌&&◌, eqb, length, get_or, take, drop}
+use Rattle.std.proofs.Common.{ap, sym, ◌∙◌, arith, eqb-true, length-take, length-drop, take_all, length-take-le, get_or-take, get_or-drop, below_more}
+use Rattle.std.proofs.lemmas.Bool.{eqb-false}
 use Rattle.vectors.specs.declared.rows.Row.{Row}
 use Rattle.vectors.specs.declared.rows.Row.TheVariants.{One}
 use Rattle.vectors.specs.Due.{Exactly, Filled, Cleared, AsDue, LoadAsDue, Untouched}
@@ -14,6 +15,27 @@ so p = record { only = λ _. p; always = λ _. refl }
 -- a test that failed, of a part that is due
 pub fails : {P Q : Type 0} {r : Bool} → Exactly r P → r ≡ false → (Q → P) → Exactly false Q
 fails x e part = not_so (λ q. let t : _ ≡ true = x.always (part q) in let z : ◌≡◌ {A = ℕ} 0 1 = cc in omega arith)
+
+-- a loop over the bytes of s has looked at the first i
+abbrev pub FilledTo : ℕ → List ℕ → ℕ → Type 0
+FilledTo b s i = (k : ℕ) → k < i → k < length s → get_or s k 0 ≡ b
+
+module _ (b : ℕ) (s : List ℕ) where
+  pub filled_none : Exactly true (FilledTo b s 0)
+  filled_none = so (λ k h. absurd (omega arith))
+
+  pub filled_more : (i : ℕ) {r : Bool} → i < length s → Exactly r (FilledTo b s i) → Exactly (r && eqb (get_or s i 0) b) (FilledTo b s (i + 1))
+  filled_more i {r} l x = by r (eqb (get_or s i 0) b) refl x
+    where
+      by : (r t : Bool) → eqb (get_or s i 0) b ≡ t → Exactly r (FilledTo b s i) → Exactly (r && t) (FilledTo b s (i + 1))
+      by true true e x = so (below_more (λ k. k < length s → get_or s k 0 ≡ b) i (x.only refl) (λ h. eqb-true (get_or s i 0) b e))
+      by true false e x = not_so (λ f. eqb-false (get_or s i 0) b e (f i (omega arith) l))
+      by false t e x = fails x refl (λ f k h. f k (omega arith))
+
+  pub filled_end : (i : ℕ) {r : Bool} → length s ≤ i → Exactly r (FilledTo b s i) → Exactly r (Filled b s)
+  filled_end i h x = record { only = λ e k l. x.only e k (omega arith) l; always = λ f. x.always (λ k m l. f k l) }
+
+pub ruleset filled_ways = (filled_none, filled_more, filled_end)
 
 module _ (size : ℕ) (s : List ℕ) (long : size ≤ length s) where
   rest_whole : take (length s - size) (drop size s) ≡ drop size s

@@ -1,5 +1,5 @@
 // The fields of a line, one after the other.
-use lines::cut::{BLANK, after, before};
+use lines::cut::{BLANK, after, before, parted};
 use lines::digits::decimal;
 
 pub(crate) fn field(fields: &[u8]) -> &[u8] {
@@ -23,8 +23,9 @@ pub(crate) fn numbers<const N: usize>(fields: &[u8]) -> Option<[usize; N]> {
     let mut out = [0; N];
     let mut left = fields;
     for n in &mut out {
-        *n = decimal(field(left))?;
-        left = rest(left);
+        let (digits, behind) = parted(left, BLANK);
+        *n = decimal(digits)?;
+        left = behind;
     }
     Some(out)
 }

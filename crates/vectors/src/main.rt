@@ -21,7 +21,7 @@ mod reports; // reports.rt: what is printed, and the counts
 
 use buffers::{INPUT, filled};
 use kinds::{Kind, kind_of};
-use lines::cut::{LINE_END, after, before};
+use lines::cut::{LINE_END, before, parted};
 use reports::{Counts, Outcome};
 use std::io;
 
@@ -54,9 +54,10 @@ fn run_all(rt: &impl Print, s: &[u8]) -> io::Result<()> {
     let mut number = 0;
     let mut left = s;
     while !left.is_empty() {
+        let (line, behind) = parted(left, LINE_END);
         number = reports::more(number);
-        one(rt, before(left, LINE_END), number, &mut counts)?;
-        left = after(left, LINE_END);
+        one(rt, line, number, &mut counts)?;
+        left = behind;
     }
     short_buffers(rt, before(s, LINE_END))?;
     counts.print(rt)

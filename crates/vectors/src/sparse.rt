@@ -1,8 +1,9 @@
 // A state as a field: `length:offset=hex+offset=hex`, every other byte zero.
 use crate::buffers::STATE;
 use crate::due::STATE_BYTES;
-use lines::cut::{after, before};
+use lines::cut::{after, before, parted};
 use lines::digits::{decimal, hex};
+use zeros::clear;
 
 const PLUS: u8 = b'+';
 
@@ -18,8 +19,9 @@ fn put_piece(piece: &[u8], out: &mut [u8]) -> Option<usize> {
 fn put_pieces(pieces: &[u8], out: &mut [u8]) -> Option<()> {
     let mut left = pieces;
     while !left.is_empty() {
-        put_piece(before(left, PLUS), out)?;
-        left = after(left, PLUS);
+        let (piece, behind) = parted(left, PLUS);
+        put_piece(piece, out)?;
+        left = behind;
     }
     Some(())
 }
@@ -28,7 +30,7 @@ fn put_pieces(pieces: &[u8], out: &mut [u8]) -> Option<()> {
 pub(crate) fn state(field: &[u8], out: &mut [u8]) -> Option<usize> {
     let length = decimal(before(field, COLON))?;
     let state = out.get_mut(..length)?;
-    state.fill(0);
+    clear(state);
     put_pieces(after(field, COLON), state)?;
     Some(length)
 }
