@@ -54,9 +54,8 @@ pub(crate) fn copy(w: &mut [u8], from: usize, to: usize)
     requires { Movable w.old from to }
     ensures { Moved w.old w.new from to }
 {
-    let code = code_at(w, from);
-    if matches!(code, TypeCode::Unit | TypeCode::Int) {
-        w[to] = code as u8;
+    if matches!(code_at(w, from), TypeCode::Unit | TypeCode::Int) {
+        w[to] = w[from];
         return;
     }
     let size = skip(w, from) - from;

@@ -43,11 +43,13 @@ fn past_name(image: &[u8], at: usize) -> Result<(TypeCode, usize), Refusal>
     let Ok(code) = TypeCode::try_from(byte) else {
         return Err(Refusal::NoSuchCode(at));
     };
-    let next = match code {
-        TypeCode::Lock | TypeCode::Ref => past_bytes(image, at + 1, 1)?,
-        TypeCode::Unit | TypeCode::Int | TypeCode::Function => at + 1,
-    };
-    Ok((code, next))
+    match code {
+        TypeCode::Function => Ok((TypeCode::Function, at + 1)),
+        TypeCode::Ref => Ok((TypeCode::Ref, past_bytes(image, at + 1, 1)?)),
+        TypeCode::Lock => Ok((TypeCode::Lock, past_bytes(image, at + 1, 1)?)),
+        TypeCode::Unit => Ok((TypeCode::Unit, at + 1)),
+        TypeCode::Int => Ok((TypeCode::Int, at + 1)),
+    }
 }
 
 // Past a type of any depth, with no recursion. `open` counts the Functions whose argument is being read: behind each one's
