@@ -32,7 +32,7 @@ fn past_bytes(image: &[u8], at: usize, count: usize) -> Result<usize, Refusal>
     Ok(at + count)
 }
 
-// A type's code, and the place after it and its name byte.
+// A type's code, and the place after it and its name byte. An arm a code: where codes share one, the caller's match is made a second time.
 #[tactic(auto, using(crate::proofs::Rules::names), unfolding(paper::specs::Lister::type_fields))]
 fn past_name(image: &[u8], at: usize) -> Result<(TypeCode, usize), Refusal>
     ensures { Opens image.now at result }
